@@ -16,7 +16,7 @@ pub use Rattle.ss_journal.specs.Puts.{with_put}
 pub use Rattle.ss_journal.specs.Redo.{changed, SameMap, SlotMap, StandsFor, zeros}
 pub use Rattle.ss_journal.specs.declared.format.TheConstants.{MOST_SLOTS}
 pub use Rattle.ss_journal.specs.declared.put.Put.{Put}
-pub use Rattle.ss_landmarks.proofs.OrderLemmas.{cases-finish, RiseFrom_push}
+pub use Rattle.ss_landmarks.proofs.OrderLemmas.{cases-finish}
 pub use Rattle.ss_landmarks.proofs.TimeLemmas.{AllEndBy-later}
 pub use Rattle.ss_landmarks.specs.Free.{is_up_to}
 pub use Rattle.ss_landmarks.specs.Landmark.{all_values, change_last, closed_at, Landmark, LandmarkValue, open_landmark, opened_at, with_value}
@@ -24,7 +24,7 @@ pub use Rattle.ss_landmarks.specs.Landmarks.{AreKnown}
 pub use Rattle.ss_landmarks.specs.Order.{AllEndBy, AreLandmarks, CanOpen, EndsBy, FollowFrom, IsLandmark, RiseFrom}
 pub use Rattle.ss_base.specs.declared.limits.TheConstants.{LAST_TIME}
 pub use Rattle.ss_line.specs.declared.entry.Entry.{Entry}
-pub use Rattle.ss_model.proofs.FoundLemmas.{AllByRecursion_push, each-behind, each-front}
+pub use Rattle.ss_model.proofs.FoundLemmas.{each-behind, each-front}
 pub use Rattle.ss_model.proofs.MarkLemmas.{ends-latest, none-latest}
 pub use Rattle.ss_model.proofs.NameLemmas.{same_name-swap}
 pub use Rattle.ss_model.proofs.StepLemmas.{filter-map, map-map}
@@ -50,7 +50,7 @@ pub use Rattle.ss_parts.specs.Held.{Agrees, all_value_records, AllAgree, AreHeld
 pub use Rattle.ss_parts.specs.Held.{IsRecord, landmark_record, landmark_records, mark_slots, marks_held, occupied, records_held, RiseToLast, slots_held}
 pub use Rattle.ss_parts.specs.Held.{span_held, span_of, stream_record, TileFrom, times_held, times_of, TimesRise, value_records, values_said, window_record}
 pub use Rattle.ss_parts.specs.Held.{window_slots, windows_held}
-pub use Rattle.ss_recover.specs.Marked.{are_counted, are_in_time, are_marks, are_numbered, free_from, is_counted, is_in_time, landmarks_made, next_from, opens_from}
+pub use Rattle.ss_recover.specs.Marked.{are_counted, are_in_time, are_marks, are_numbered, free_from, is_in_time, landmarks_made, next_from, opens_from}
 pub use Rattle.ss_recover.specs.Marked.{rise_within, values_first}
 pub use Rattle.ss_recover.specs.Order.{found_key, key_of, place_of, Rises, stream_of}
 pub use Rattle.ss_recover.specs.Parts.{bad_slot, bad_stream, Carried, carries, judged, lowest_bad_slot, lowest_bad_stream, lowest_in, records_in}
@@ -78,7 +78,7 @@ pub use Rattle.std.proofs.Common.{[], ◌%◌, ◌&&◌, ◌*◌, ◌++◌, ◌+
 pub use Rattle.std.proofs.Common.{ap₂, arith, Bool, cond, drop, eqb, Err, false, filter, flat_map, fold, get_or, IfErr, IfOk, IfSome, inl, inr, is_none}
 pub use Rattle.std.proofs.Common.{IsPermutation, IsTrue, leb, leb-true, length, length-append, List, ltb, map, MatchOption, max, min, nat_eq, None, not}
 pub use Rattle.std.proofs.Common.{Ok, Option, pos, refl, replicate, Result, rules, set, Some, subst, suc, sym, take, true, zero, ℕ, ℤ}
-pub use Rattle.std.proofs.Math.Bool.{and-false, and-true, and_assoc, or-false}
+pub use Rattle.std.proofs.Math.Bool.{and-false, and-true, or-false}
 pub use Rattle.std.proofs.Math.Seq.{drop-cons}
 pub use Rattle.std.proofs.lemmas.Bool.{and_cases, and_from, and_left, and_parts, and_right, cases_Bool, cases_eq, cases_lt, cases_order, cond-false, cond-true}
 pub use Rattle.std.proofs.lemmas.Bool.{cond_both, eq-eqb, eqb-true, false_from_ne_true, le-leb, le-ltb, leb-false, lt-leb, lt-ltb, ltb-true, ne_eqb, not-true}
@@ -95,14 +95,13 @@ pub use Rattle.std.proofs.lemmas.List.Sorted.{All-permutation, answers_always, I
 pub use Rattle.std.proofs.lemmas.List.Sorted.{IsPermutation-append_comm, IsPermutation-append_left, IsPermutation-append_right, IsPermutation-cons}
 pub use Rattle.std.proofs.lemmas.List.Sorted.{IsPermutation-map, IsPermutation-refl, IsPermutation-sym}
 pub use Rattle.std.proofs.lemmas.List.Sorted.{IsPermutation-trans, length_permutation, list_any-IsPermutation, sum_by-IsPermutation}
-pub use Rattle.std.proofs.lemmas.List.Sums.{count_by-le-length, fold-append, length-filter, position_or_len_is, sum_by-append, sum_by-cons}
+pub use Rattle.std.proofs.lemmas.List.Sums.{count_by-le-length, length-filter, position_or_len_is, sum_by-append, sum_by-cons}
 pub use Rattle.std.proofs.lemmas.Map.Keys.{IsDistinct-cons, IsDistinct-from_apart, IsDistinct-head, IsDistinct-tail}
 pub use Rattle.std.proofs.lemmas.Result.{err_from_is_err_and, on_ok_weaker}
 pub use Rattle.std.proofs.lemmas.Slice.Zip.{firsts-zip, seconds-zip}
-pub use Rattle.std.specs.Int.{w64}
 pub use Rattle.std.specs.List.{AllByRecursion, AllPairs, cons_option, filter_map, IsDistinct, list_all, list_any, position_or_len, range_with_len}
 pub use Rattle.std.specs.List.Sorted.{IsNonDecreasingBy, IsSortedByKey, IsStableByKey, IsStrictlyIncreasing, ties}
 pub use Rattle.std.specs.Option.{option_map_or}
-pub use Rattle.std.specs.Prelude.{⊤, ◌==◌, ◌≢◌, count_by, FitsSigned, if◌then◌else◌, is_some, nat_le, nat_lt, negsuc, OnOk, option_and_then, option_to_list}
+pub use Rattle.std.specs.Prelude.{⊤, ◌==◌, ◌≢◌, count_by, if◌then◌else◌, is_some, nat_le, nat_lt, negsuc, OnOk, option_and_then, option_to_list}
 pub use Rattle.std.specs.Prelude.{slice_index_or, slice_set, sum_by, zip}
 pub use Rattle.std.specs.Vec.{vec_capacity}

@@ -1,9 +1,9 @@
 -- What the three conditions on records of landmarks say: they are the records of the landmarks that they make.
 use Rattle.ss_recover.proofs.Common.{[], ◌&&◌, ◌++◌, ◌+◌, ◌<◌, ◌==◌, ◌||◌, ◌∙◌, ◌∷◌, ◌≡◌, ◌≤◌, All, All-nil, AllByRecursion, and_parts, ap, are_counted}
-use Rattle.ss_recover.proofs.Common.{are_in_time, are_marks, are_numbered, AreLandmarks, arith, eq-eqb, eqb-true, false, free_from, FollowFrom, HasValidTimes}
+use Rattle.ss_recover.proofs.Common.{are_in_time, are_marks, are_numbered, AreLandmarks, arith, eq-eqb, eqb-true, free_from, FollowFrom, HasValidTimes}
 use Rattle.ss_recover.proofs.Common.{is_mark_of, is_none, IsLandmark, IsUsable, Landmark, landmarks_made, LandmarkValue, later, latest_in, latest_of, leb-true}
-use Rattle.ss_recover.proofs.Common.{length, List, marks_in, MatchOption, None, opens_from, Option, Record, refl, rise_within, RiseFrom, Some, stream_of, sym, true}
-use Rattle.ss_recover.proofs.Common.{value_records, values_first, values_said, ℕ}
+use Rattle.ss_recover.proofs.Common.{length, List, marks_in, MatchOption, None, opens_from, Option, Record, refl, rise_within, RiseFrom, Some, stream_of, sym}
+use Rattle.ss_recover.proofs.Common.{true, value_records, values_first, values_said, ℕ}
 use Rattle.ss_recover.proofs.Marks.{marks_of}
 use Rattle.ss_codec.specs.declared.record.Record.TheVariants as records
 use Rattle.std.proofs.lemmas.List.Elements.{All-cons}

@@ -4,8 +4,8 @@ use Rattle.ss_recover.proofs.Common.{append_assoc, are_marks, AreLandmarks, AreM
 use Rattle.ss_recover.proofs.Common.{FollowFrom, Found, found_by, HasMarkRoom, IfSome, inl, inr, is_landmark, is_mark_of, is_none, is_value, IsLandmark}
 use Rattle.ss_recover.proofs.Common.{IsUsable, Landmark, landmarks_made, LandmarkValue, later, latest_in, latest_of, LAST_TIME, length, length-append, List}
 use Rattle.ss_recover.proofs.Common.{marks_in, MarksShown, MatchOption, max, MayClose, MayCome, MOST_RECORDS, None, open_landmark, opened_at, Option}
-use Rattle.ss_recover.proofs.Common.{option_and_then, option_to_list, Record, recursion_from_All, refl, RiseFrom, slots_found, Some, stream_of, subst, sym, true}
-use Rattle.ss_recover.proofs.Common.{values_first, with_closing, with_found, with_value, without_slots, ℕ}
+use Rattle.ss_recover.proofs.Common.{option_and_then, option_to_list, Record, recursion_from_All, refl, RiseFrom, slots_found, Some, stream_of, subst, sym}
+use Rattle.ss_recover.proofs.Common.{true, values_first, with_closing, with_found, with_value, without_slots, ℕ}
 use Rattle.std.specs.Prelude.{IfNone, option_map}
 use Rattle.ss_landmarks.specs.Order.{CanClose, IsClosedBefore}
 use Rattle.ss_recover.proofs.MarkConditions.{are_marks-own, AreOf-are_marks, latest_of-push, later-assoc, made-own, none-first}
@@ -263,7 +263,8 @@ all-may-come number all few are own usable =
     let rs = without_slots all in
     let owns = map-all (λ r. stream_of r ≡ number) (λ (f : Found). f.holds) all (recursion_from_All (λ (f : Found). stream_of f.holds ≡ number) all own) in
     let usables = map-all IsUsable (λ (f : Found). f.holds) all (recursion_from_All (λ (f : Found). IsUsable f.holds) all usable) in
-    let follow = (AreOf-are_marks number (marks_in number rs) (all-passing (is_mark_of number) rs) (all-kept IsUsable (is_mark_of number) rs usables) are).landmarks in
+    let follow = (AreOf-are_marks number (marks_in number rs) (all-passing (is_mark_of number) rs)
+    (all-kept IsUsable (is_mark_of number) rs usables) are).landmarks in
     let numbers = (and_parts _ _ (and_parts _ _ (sym (are_marks-own number rs owns) ∙ are)).0).0 in
     all-come number all few follow all [] None [] [] (record {
       made = made-own number rs owns;

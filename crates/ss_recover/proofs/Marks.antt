@@ -5,8 +5,9 @@ use Rattle.ss_recover.proofs.Common.{and_from, ap, append_assoc, are_counted, ar
 use Rattle.ss_recover.proofs.Common.{FollowFrom, free_from, IfSome, in_order, is_mark_of, is_none, is_up_to, IsLandmark, IsPermutation}
 use Rattle.ss_recover.proofs.Common.{IsPermutation-append_comm, IsPermutation-append_left, IsPermutation-append_right, IsPermutation-cons, IsPermutation-refl}
 use Rattle.ss_recover.proofs.Common.{IsPermutation-trans, Landmark, landmark_record, landmark_records, landmarks_made, LandmarkValue, LAST_TIME, le-leb, length}
-use Rattle.ss_recover.proofs.Common.{length-append, List, map, MatchOption, None, Option, option_map_or, place_of, Record, recursion_from_All, refl, rise_within}
-use Rattle.ss_recover.proofs.Common.{RiseFrom, Some, Stream, stream_record, subst, true, value_records, values_first, values_said, window_record, ℕ, ℤ}
+use Rattle.ss_recover.proofs.Common.{length-append, List, map, MatchOption, None, Option, option_map_or, place_of, Record, recursion_from_All, refl}
+use Rattle.ss_recover.proofs.Common.{rise_within, RiseFrom, Some, Stream, stream_record, subst, true, value_records, values_first, values_said, window_record}
+use Rattle.ss_recover.proofs.Common.{ℕ, ℤ}
 use Rattle.ss_recover.proofs.InOrder.{in_order-IsPermutation, Rise}
 use Rattle.ss_model.proofs.FoundLemmas.{each-append}
 use Rattle.ss_codec.specs.declared.record.Record.TheVariants as records

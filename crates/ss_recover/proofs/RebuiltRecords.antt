@@ -63,7 +63,8 @@ module _ (parts : Parts) (streams : List Stream) (all sorted : List Found) (buil
   pub all-held : IsPermutation (map with_slot doomed ++ held) (map with_slot all)
   all-held =
       let there = doomed_found false sorted ++ doomed_found true sorted in
-      IsPermutation-trans _ _ _ (IsPermutation-append_left held (map with_slot doomed) (map with_slot there) (IsPermutation-map with_slot doomed there doomed-moved))
+      IsPermutation-trans _ _ _
+      (IsPermutation-append_left held (map with_slot doomed) (map with_slot there) (IsPermutation-map with_slot doomed there doomed-moved))
       (IsPermutation-trans _ _ _ built.records (IsPermutation-map with_slot sorted all (IsPermutation-sym all sorted moved)))
 
   records-held : records_beside held ≡ records_of_streams streams

@@ -245,7 +245,8 @@ IsStandingAmong all front left =
     AreBehind front (without_slots (standing_found (without_slots all) left)) (streams_made (without_slots all) (without_slots left))
 
 behind-run : (all front : List Found) (slot : ℕ) (r : Record) (rest back : List Found) → IsRun all front (record { slot = slot; holds = r }) rest back →
-    is_run (names_created (without_slots front)) (r ∷ without_slots rest) ≡ true → IsStandingAmong all (front ++ record { slot = slot; holds = r } ∷ rest) back →
+    is_run (names_created (without_slots front)) (r ∷ without_slots rest) ≡ true →
+    IsStandingAmong all (front ++ record { slot = slot; holds = r } ∷ rest) back →
     IsStandingAmong all front ((record { slot = slot; holds = r } ∷ rest) ++ back)
 behind-run all front slot (records.Stream id name params dropped) rest back is run behind =
     let us = without_slots all in

@@ -17,48 +17,54 @@ use ss_targets::Target;
 use std::alloc::Global;
 use std::sync::ledger::Ledger;
 
+// What a stream's own record says, and its slot.
+#[derive(Clone, Copy)]
+pub struct Head {
+    pub slot: u32,
+    pub id: u32,
+    pub name: Name,
+    pub params: Params,
+}
+
 // The stream whose own record says this, with the windows and the landmarks of its other records. None says that these break
 // a condition.
 pub fn build<L: Ledger>(
     alloc: Global,
-    slot: u32,
-    id: u32,
-    name: Name,
-    params: Params,
+    head: Head,
     rest: &[Found],
     steps: &mut Steps<L>,
 ) -> Result<Option<StreamParts>, RecoverError>
-    requires target { IsTrue (has_target params) }
+    requires target { IsTrue (has_target head.params) }
     requires usable { All (λ f. IsUsable f.holds) rest.now }
-    requires own { All (λ f. stream_of f.holds ≡ id) rest.now }
+    requires own { All (λ f. stream_of f.holds ≡ head.id) rest.now }
     requires few { length rest.now < MOST_RECORDS }
-    ensures { BuildsAs (record { number = id; name = name; params = params }) slot rest.now result }
+    ensures { BuildsAs (record { number = head.id; name = head.name; params = head.params }) head.slot rest.now result }
 {
-    if !tile(id, rest) {
+    if !tile(head.id, rest) {
         return Ok(None);
     }
-    if !times_rise(id, rest) {
+    if !times_rise(head.id, rest) {
         return Ok(None);
     }
-    let Ok(target) = Target::of(params) else {
+    let Ok(target) = Target::of(head.params) else {
         return Err(RecoverError::OutOfMemory);
     };
-    if !keep_step(&target, id, rest) {
+    if !keep_step(&target, head.id, rest) {
         return Ok(None);
     }
-    if !are_marks(id, rest) {
+    if !are_marks(head.id, rest) {
         return Ok(None);
     }
-    let marks = marks_of(alloc, id, rest)?;
-    if !lie_free(&marks.landmarks, id, rest, steps) {
+    let marks = marks_of(alloc, head.id, rest)?;
+    if !lie_free(&marks.landmarks, head.id, rest, steps) {
         return Ok(None);
     }
-    let windows = windows_of(alloc, id, rest, steps)?;
+    let windows = windows_of(alloc, head.id, rest, steps)?;
     Ok(Some(StreamParts {
-        id: StreamId(id),
-        name,
+        id: StreamId(head.id),
+        name: head.name,
         target,
-        slot,
+        slot: head.slot,
         last_time: later(windows.newest, marks.latest),
         line: windows.line,
         landmarks: marks.landmarks,

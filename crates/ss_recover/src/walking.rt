@@ -10,7 +10,7 @@ ghost use Rattle.ss_recover.specs.Shown.{AddsName, EndsWalk, HasMore, HasNothing
 ghost use Rattle.ss_recover.specs.Usable.{IsUsable, slots_found, without_slots};
 ghost use Rattle.ss_recover.specs.declared.recover_error.RecoverError.TheVariants.{OutOfMemory};
 
-use crate::building::build;
+use crate::building::{Head, build};
 use crate::found::Found;
 use crate::{Parts, RecoverError};
 use ss_base::Steps;
@@ -164,7 +164,13 @@ impl Walk {
         if dropped {
             return self.put_dropped(first.slot, rest);
         }
-        match build(alloc, first.slot, id, name, params, rest, steps)? {
+        let head = Head {
+            slot: first.slot,
+            id,
+            name,
+            params,
+        };
+        match build(alloc, head, rest, steps)? {
             Some(part) => self.put_standing(part),
             None => Err(RecoverError::BadStream { id }),
         }

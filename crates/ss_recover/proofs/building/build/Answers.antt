@@ -6,18 +6,18 @@ use Rattle.ss_recover.proofs.building.build.Goals as goal
 pub returns : goal.returns
 returns g c =
     let rest = c.args.rest.now in
-    let ws = windows_in c.args.id (without_slots rest) in
-    let ms = marks_in c.args.id (without_slots rest) in
+    let ws = windows_in c.args.head.id (without_slots rest) in
+    let ms = marks_in c.args.head.id (without_slots rest) in
     let made = c.in_ok-marks.ensures.ok in
     let windows = c.in_ok-windows.ensures.ok in
     let tiles : tile ws ≡ true = sym c.tile.ensures ∙ c.if-not-tile.false in
     let rises : times_rise ws ≡ true = sym c.times_rise.ensures ∙ c.if-not-times_rise.false in
     let are : are_marks ms ≡ true = sym c.are_marks.ensures ∙ c.if-not-are_marks.false in
-    let keeps : keep_step (step_number c.args.params.within) ws ≡ true =
+    let keeps : keep_step (step_number c.args.head.params.within) ws ≡ true =
     subst (λ (p : Params). keep_step (step_number p.within) ws ≡ true) c.in-Ok.ensures.params (sym c.keep_step.ensures ∙ c.if-not-keep_step.false) in
     let free : list_all (lies_free (landmarks_made ms)) ws ≡ true =
     ap (λ (ls : List Landmark). list_all (lies_free ls) ws) (sym made.landmarks) ∙ sym c.lie_free.ensures ∙ c.if-not-lie_free.false in (
-      and_from (has_sound_values_in_order (without_slots rest) c.args.id) (keep_step (step_number c.args.params.within) ws)
+      and_from (has_sound_values_in_order (without_slots rest) c.args.head.id) (keep_step (step_number c.args.head.params.within) ws)
           (and_from (tile ws && times_rise ws && are_marks ms) (list_all (lies_free (landmarks_made ms)) ws)
           (and_from (tile ws && times_rise ws) (are_marks ms) (and_from (tile ws) (times_rise ws) tiles rises) are) free) keeps,
       record {

@@ -1,4 +1,5 @@
-use Rattle.ss_recover.proofs.Common.{◌&&◌, ◌∙◌, ◌≡◌, All, All-tail, are_in_time, Found, is_in_time, IsUsable, List, next_from, Some, subst, sym, true, without_slots}
+use Rattle.ss_recover.proofs.Common.{◌&&◌, ◌∙◌, ◌≡◌, All, All-tail, are_in_time, Found, is_in_time, IsUsable, List, next_from, Some, subst}
+use Rattle.ss_recover.proofs.Common.{sym, true, without_slots}
 use Rattle.ss_recover.proofs.marking.are_in_time.Goals as goal
 
 pub loop-first-preserved : goal.loop-first-preserved
