@@ -14,7 +14,7 @@ use Rattle.ss_file.specs.Opening.{IsBlank, IsHeldAs, IsLockedAs, IsNative, IsSet
 use Rattle.ss_file.specs.Opening.{makes}
 use Rattle.ss_file.specs.Reason.{IsCaused, IsOwn, own}
 use Rattle.ss_file.specs.System.{Absent, Counts, Found, GoesInto, InUse}
-use Rattle.ss_file.specs.System.{Apart, Durable, Fact, IsUnsyncable, Keeps, KeepsAll, LockedBy, OpenFor, RegularFile, Synced, Unmade, Unsyncable}
+use Rattle.ss_file.specs.System.{Apart, Durable, Fact, FolderOpen, IsUnsyncable, Keeps, KeepsAll, LockedBy, OpenFor, RegularFile, Synced, Unmade, Unsyncable}
 use Rattle.ss_file.specs.System.{Unwritten}
 use Rattle.ss_file.specs.System.{lasts_lock, lasts_open, lasts_write}
 use Rattle.ss_file.specs.declared.opening.Missing.{Missing}
@@ -22,8 +22,8 @@ use Rattle.ss_file.specs.declared.opening.Missing.TheVariants as missing
 use Rattle.ss_file.specs.declared.opening.Opened.{Opened}
 use Rattle.ss_file.specs.declared.opening.Opened.TheVariants.{Made, Nothing, ReadOnly, Writable}
 use Rattle.ss_file.specs.declared.reason.Reason.{Reason}
-use Rattle.ss_file.specs.declared.reason.Trouble.TheVariants.{FailedBefore, Foreign, Full, Irregular, NoFile, NoFolder, NoName, NotChecked}
-use Rattle.ss_file.specs.declared.reason.Trouble.TheVariants.{NotMakeable, NotOpened, NotRead, NotReadable, NotSynced, NotWritten, ReadOnlyWithWork}
+use Rattle.ss_file.specs.declared.reason.Trouble.TheVariants.{FailedBefore, FolderNotOpened, Foreign, Full, Irregular, NoFile, NoFolder, NoName, NotChecked}
+use Rattle.ss_file.specs.declared.reason.Trouble.TheVariants.{NotLocked, NotMakeable, NotOpened, NotRead, NotReadable, NotSynced, NotWritten, ReadOnlyWithWork}
 use Rattle.ss_file.specs.declared.reason.Trouble.TheVariants as trouble
 use Rattle.ss_file.specs.declared.system.Access.TheVariants.{Make, Read, Write}
 use Rattle.ss_file.specs.declared.system.Kind.TheVariants.{Pipe, Regular}
@@ -31,26 +31,26 @@ use Rattle.ss_file.specs.declared.system.Lock.TheVariants.{Exclusive, Shared}
 use Rattle.ss_file.specs.declared.system.Stream.TheVariants.{Output}
 
 facts : List Fact
-facts = Unmade ∷ Unwritten ∷ OpenFor Make ∷ Apart ∷ LockedBy Shared ∷ RegularFile ∷ Synced ∷ Unsyncable ∷ Durable ∷ Absent ∷ Found Pipe ∷ GoesInto Output ∷ InUse ∷ []
+facts = Unmade ∷ Unwritten ∷ OpenFor Make ∷ Apart ∷ LockedBy Shared ∷ RegularFile ∷ Synced ∷ Unsyncable ∷ Durable ∷ Absent ∷ Found Pipe ∷ GoesInto Output ∷ InUse ∷ FolderOpen ∷ []
 
 -- what each call leaves
 lasts_open-Make :
-    map (lasts_open Make) facts ≡ false ∷ true ∷ false ∷ false ∷ false ∷ false ∷ false ∷ false ∷ false ∷ false ∷ false ∷ false ∷ false ∷ []
+    map (lasts_open Make) facts ≡ false ∷ true ∷ false ∷ false ∷ false ∷ false ∷ false ∷ false ∷ false ∷ false ∷ false ∷ false ∷ false ∷ false ∷ []
 unfolding facts
 lasts_open-Make = refl
 
 lasts_open-Read :
-    map (lasts_open Read) facts ≡ true ∷ true ∷ false ∷ false ∷ false ∷ false ∷ false ∷ false ∷ false ∷ false ∷ false ∷ false ∷ false ∷ []
+    map (lasts_open Read) facts ≡ true ∷ true ∷ false ∷ false ∷ false ∷ false ∷ false ∷ false ∷ false ∷ false ∷ false ∷ false ∷ false ∷ false ∷ []
 unfolding facts
 lasts_open-Read = refl
 
 lasts_lock-facts :
-    map lasts_lock facts ≡ true ∷ true ∷ true ∷ true ∷ false ∷ true ∷ true ∷ true ∷ true ∷ true ∷ true ∷ true ∷ false ∷ []
+    map lasts_lock facts ≡ true ∷ true ∷ true ∷ true ∷ false ∷ true ∷ true ∷ true ∷ true ∷ true ∷ true ∷ true ∷ false ∷ true ∷ []
 unfolding facts
 lasts_lock-facts = refl
 
 lasts_write-facts :
-    map lasts_write facts ≡ true ∷ false ∷ true ∷ true ∷ true ∷ true ∷ false ∷ true ∷ false ∷ true ∷ true ∷ true ∷ true ∷ []
+    map lasts_write facts ≡ true ∷ false ∷ true ∷ true ∷ true ∷ true ∷ false ∷ true ∷ false ∷ true ∷ true ∷ true ∷ true ∷ true ∷ []
 unfolding facts
 lasts_write-facts = refl
 
@@ -72,7 +72,7 @@ IsUnsyncable-other error other (inl is) = let same = sym other ∙ is in cc
 IsUnsyncable-other error other (inr is) = let same = sym other ∙ is in cc
 
 lasts_open-Write :
-    map (lasts_open Write) facts ≡ true ∷ true ∷ false ∷ false ∷ false ∷ false ∷ false ∷ false ∷ false ∷ false ∷ false ∷ false ∷ false ∷ []
+    map (lasts_open Write) facts ≡ true ∷ true ∷ false ∷ false ∷ false ∷ false ∷ false ∷ false ∷ false ∷ false ∷ false ∷ false ∷ false ∷ false ∷ []
 unfolding facts
 lasts_open-Write = refl
 
@@ -255,6 +255,12 @@ module _ (holds : Fact → Type 0) (fits : List ℕ → Type 0) where
 
   own-NotOpened : IsOwn [] None holds fits NotOpened → ⊥
   own-NotOpened is = is
+
+  own-NotLocked : IsOwn [] None holds fits NotLocked → ⊥
+  own-NotLocked is = is
+
+  own-FolderNotOpened : IsOwn [] None holds fits FolderNotOpened → ⊥
+  own-FolderNotOpened is = is
 
   own-NoFolder : IsOwn [] None holds fits NoFolder → ⊥
   own-NoFolder is = is

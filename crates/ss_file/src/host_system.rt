@@ -68,6 +68,7 @@ pub struct HostSystem<'a, R> {
     rt: &'a R,
     stand_ins: Option<StandIns>,
     file: Option<File>,
+    folder: Option<File>,
 }
 
 impl<'a, R: Files<File = File>> HostSystem<'a, R> {
@@ -76,6 +77,7 @@ impl<'a, R: Files<File = File>> HostSystem<'a, R> {
             rt,
             stand_ins: None,
             file: None,
+            folder: None,
         }
     }
 
@@ -153,9 +155,17 @@ impl<R: Files<File = File> + AllocGlobal> System for HostSystem<'_, R> {
         self.opened()?.sync_all()
     }
 
-    fn sync_folder(&mut self, path: &str) -> io::Result<()> {
+    fn open_folder(&mut self, path: &str) -> io::Result<()> {
         let mut folder = fs::canonicalize(self.rt, path)?;
         folder.pop();
-        File::open(self.rt, folder.as_str())?.sync_all()
+        self.folder = Some(File::open(self.rt, folder.as_str())?);
+        Ok(())
+    }
+
+    fn sync_folder(&mut self) -> io::Result<()> {
+        match self.folder.take() {
+            Some(folder) => folder.sync_all(),
+            None => Err(io::Error::from(ErrorKind::Other)),
+        }
     }
 }

@@ -182,7 +182,11 @@ impl System for MadeUpSystem {
         self.note("sync_all")
     }
 
-    fn sync_folder(&mut self, _path: &str) -> io::Result<()> {
+    fn open_folder(&mut self, _path: &str) -> io::Result<()> {
+        self.note("open_folder")
+    }
+
+    fn sync_folder(&mut self) -> io::Result<()> {
         self.note("sync_folder")
     }
 }

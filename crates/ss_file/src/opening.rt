@@ -120,7 +120,7 @@ fn lock<S: System>(system: &mut S, how: Lock) -> Result<(), Reason>
     match system.lock(how) {
         Ok(()) => Ok(()),
         Err(error) if error.kind() == ErrorKind::WouldBlock => Err(Reason::own(Trouble::InUse)),
-        Err(error) => Err(Reason::of(error, Trouble::NotOpened)),
+        Err(error) => Err(Reason::of(error, Trouble::NotLocked)),
     }
 }
 
@@ -268,7 +268,10 @@ fn make_durable<S: System>(system: &mut S, path: &str) -> Result<(), Reason>
     if let Err(error) = system.sync_all() {
         return Err(Reason::of(error, Trouble::NotSynced));
     }
-    match system.sync_folder(path) {
+    if let Err(error) = system.open_folder(path) {
+        return Err(Reason::of(error, Trouble::FolderNotOpened));
+    }
+    match system.sync_folder() {
         Ok(()) => Ok(()),
         Err(error) => Err(Reason::of(error, Trouble::NotSynced)),
     }

@@ -4,7 +4,7 @@ ghost use Rattle.std.specs.Prelude.{None};
 ghost use Rattle.std.specs.IoError.{error_kind};
 ghost use Rattle.std.specs.declared.io.ErrorKind.TheVariants.{NotFound, WouldBlock};
 ghost use Rattle.ss_file.specs.System.{Absent, Counts, Found, GoesInto, InUse};
-ghost use Rattle.ss_file.specs.System.{Fact, OpenFor, Apart, LockedBy, RegularFile, Synced, Unsyncable, Durable};
+ghost use Rattle.ss_file.specs.System.{Fact, OpenFor, Apart, LockedBy, RegularFile, Synced, Unsyncable, FolderOpen, Durable};
 ghost use Rattle.ss_file.specs.System.{KeepsAll, Keeps, lasts_open, lasts_lock, lasts_write, IsUnsyncable};
 
 use std::io;
@@ -135,9 +135,15 @@ pub trait System {
         ensures cause { Counts (faults self.old) (faults self.new) result }
         ensures keeps { KeepsAll (holds self.old) (holds self.new) };
 
-    /// Makes the file's name durable, in the folder where the file really lies.
-    fn sync_folder(&mut self, path: &str) -> io::Result<()>
-        ensures durable { OnOk result (holds self.old Synced → holds self.new Durable) }
+    /// Opens the folder where the file really lies.
+    fn open_folder(&mut self, path: &str) -> io::Result<()>
+        ensures opens { OnOk result (holds self.new FolderOpen) }
+        ensures cause { Counts (faults self.old) (faults self.new) result }
+        ensures keeps { KeepsAll (holds self.old) (holds self.new) };
+
+    /// Makes the file's name durable, in its folder, which is open.
+    fn sync_folder(&mut self) -> io::Result<()>
+        ensures durable { OnOk result (holds self.old FolderOpen → holds self.old Synced → holds self.new Durable) }
         ensures cause { Counts (faults self.old) (faults self.new) result }
         ensures keeps { KeepsAll (holds self.old) (holds self.new) };
 

@@ -13,7 +13,7 @@ use ss_outside::Sink;
 use ss_store::OpenError;
 
 const USAGE: &str =
-    "usage: summarystore STORE [run | check | gen SEED COUNT | sessions | frames | follow]\n";
+    "usage: summarystore STORE [run | check | gen SEED COUNT | [sessions] [framed] [batch] | frames [batch] | follow [batch]]\n";
 
 // Says a line. A sink that fails at it changes no status.
 fn say<K: Sink>(line: &[u8], sink: &mut K)

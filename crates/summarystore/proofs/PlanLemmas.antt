@@ -1,10 +1,12 @@
 -- Options are taken off the words one by one.
-use Rattle.std.proofs.Common.{◌≡◌, List, [], ◌∷◌, ◌++◌, Some, None, drop, take, refl, ap}
-use Rattle.std.specs.List.{remove}
+use Rattle.std.proofs.Common.{◌≡◌, ◌∙◌, ◌<◌, ◌≤◌, ◌||◌, if◌then◌else◌, nat_lt, true, false, Bool, ℕ, arith, length, sym, List, [], ◌∷◌, ◌++◌, Some, None, drop, take, refl, ap}
+use Rattle.std.proofs.lemmas.Bool.{le-ltb}
+use Rattle.std.proofs.lemmas.List.{drop-map, length-map, map-append, take-map}
+use Rattle.std.specs.List.{insert, remove}
 use Rattle.std.specs.Option.{option_map_or}
 use Rattle.std.specs.Prelude.{String, string_bytes}
 use Rattle.ss_arguments.specs.Modes.{words_of}
-use Rattle.summarystore.specs.Plan.{behind_options, first_switch, options_from, with_switch}
+use Rattle.summarystore.specs.Plan.{behind_options, first_switch, is_last, options_from, with_switch, with_word}
 use Rattle.summarystore.specs.declared.options.Options.{Options}
 use Rattle.summarystore.specs.declared.options.Switch.{Switch}
 
@@ -49,3 +51,48 @@ pub words_of-take_two : {Z : Type 0} (words : List (String Z)) → words_of (tak
 words_of-take_two [] = refl
 words_of-take_two (word ∷ []) = refl
 words_of-take_two (word ∷ other ∷ rest) = refl
+
+-- the front of words is that of what they spell
+pub words_of-front : {Z : Type 0} (words : List (String Z)) (place : ℕ) → words_of (take place words) ≡ take place (words_of words)
+words_of-front words place = sym (take-map (λ word. string_bytes word) place words)
+
+-- a word that is put among others stands among what they spell
+pub words_of-insert : {Z : Type 0} (words : List (String Z)) (place : ℕ) (word : String Z) →
+    words_of (insert words place word) ≡ insert (words_of words) place (string_bytes word)
+words_of-insert words place word =
+    map-append (λ text. string_bytes text) (take place words) (word ∷ drop place words)
+    ∙ rw (← words_of-front words place, drop-map) refl
+
+-- of two lists the first where a test passes or another one, and the second where neither does
+first_of : (few last : Bool) (a b : List (List ℕ)) → last ≡ true → (if few || last then a else b) ≡ a
+first_of true last a b is = refl
+first_of false true a b is = refl
+first_of false false a b is = cc
+
+second_of : (few last : Bool) (a b : List (List ℕ)) → few ≡ false → last ≡ false → (if few || last then a else b) ≡ b
+second_of true last a b many other = cc
+second_of false true a b many other = cc
+second_of false false a b many other = refl
+
+-- where no path is among words, or the word stands there already, they stay
+pub with_word-few : {Z : Type 0} (place : ℕ) (word : List ℕ) (words : List (String Z)) → length words < 2 →
+    words_of words ≡ with_word place word (words_of words)
+with_word-few place word [] few = refl
+with_word-few place word (program ∷ []) few = refl
+with_word-few place word (program ∷ path ∷ rest) few = absurd (omega arith)
+
+pub with_word-there : {Z : Type 0} (place : ℕ) (word : List ℕ) (words : List (String Z)) → is_last word (words_of (take place words)) ≡ true →
+    words_of words ≡ with_word place word (words_of words)
+with_word-there place word words there =
+    sym (first_of (nat_lt (length (words_of words)) 2) (is_last word (take place (words_of words))) _ _
+    (sym (ap (λ front. is_last word front) (words_of-front words place)) ∙ there))
+
+-- and else it is put there
+pub with_word-put : {Z : Type 0} (place : ℕ) (word : List ℕ) (words : List (String Z)) (text : String Z) → 2 ≤ length words →
+    is_last word (words_of (take place words)) ≡ false → string_bytes text ≡ word →
+    words_of (insert words place text) ≡ with_word place word (words_of words)
+with_word-put place word words text enough absent spells =
+    let long : 2 ≤ length (words_of words) = omega (arith, length-map words (λ text. string_bytes text)) in
+    words_of-insert words place text ∙ ap (λ bytes. insert (words_of words) place bytes) spells ∙
+    sym (second_of (nat_lt (length (words_of words)) 2) (is_last word (take place (words_of words))) _ _ (le-ltb (length (words_of words)) 2 long)
+    (sym (ap (λ front. is_last word front) (words_of-front words place)) ∙ absent))

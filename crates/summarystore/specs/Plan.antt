@@ -1,5 +1,6 @@
 -- What the program does, by the words of the command line.
-use Rattle.std.specs.Prelude.{ℕ, Bool, true, false, ◌==◌, ◌&&◌, ◌||◌, nat_lt, if◌then◌else◌, List, [], ◌∷◌, ◌++◌, length, take, drop, codes, Option, Some, None}
+use Rattle.std.specs.Prelude.{ℕ, Bool, true, false, ◌==◌, ◌&&◌, ◌||◌, ◌-◌, nat_lt, if◌then◌else◌, List, [], ◌∷◌, ◌++◌, length, get_or, take, drop, codes, Option, Some, None}
+use Rattle.std.specs.List.{insert}
 use Rattle.std.specs.Option.{option_map_or}
 use Rattle.std.specs.Prelude.{string_bytes}
 use Rattle.std.specs.Str.{bytes_eq}
@@ -117,15 +118,32 @@ names_run _ = false
 abbrev pub without_run : List (List ℕ) → List (List ℕ)
 without_run words = if names_run words then take 2 words else words
 
--- words that ask for the same with one more word, in place of that of a plain run, where a path is among them
-abbrev pub with_word : List ℕ → List (List ℕ) → List (List ℕ)
-with_word word words = if nat_lt (length words) 2 then words else without_run words ++ word ∷ []
+-- whether the last of the words behind the path is this one
+abbrev pub is_last : List ℕ → List (List ℕ) → Bool
+is_last word words = nat_lt 2 (length words) && bytes_eq (get_or words (length words - 1) []) word
 
--- words with those that the options stand for: `framed`, and last `batch`
-abbrev pub asked_words : Options → List (List ℕ) → List (List ℕ)
+-- words with one more at a place behind the path, unless it stands in front of that place
+abbrev pub with_word : ℕ → List ℕ → List (List ℕ) → List (List ℕ)
+with_word place word words =
+    if nat_lt (length words) 2 || is_last word (take place words) then words else insert words place word
+
+-- where `framed` stands: at the end, or before `batch`
+abbrev pub place_of_framed : List (List ℕ) → ℕ
+place_of_framed words = if is_last (codes "batch") words then length words - 1 else length words
+
+-- words with `framed`, and words with `batch` at their end, each once
+abbrev pub with_framed : List (List ℕ) → List (List ℕ)
+with_framed words = with_word (place_of_framed words) (codes "framed") words
+
+abbrev pub with_batch : List (List ℕ) → List (List ℕ)
+with_batch words = with_word (length words) (codes "batch") words
+
+-- words with those that the options stand for, in place of the word of a plain run
+unfoldable pub asked_words : Options → List (List ℕ) → List (List ℕ)
 asked_words options words =
-    let framed = if options.is_framed then with_word (codes "framed") words else words in
-    if options.batches then with_word (codes "batch") framed else framed
+    let plain = if options.is_framed || options.batches then without_run words else words in
+    let framed = if options.is_framed then with_framed plain else plain in
+    if options.batches then with_batch framed else framed
 
 -- the store's path: the word after the program's name, or the empty path
 abbrev pub path_of : List (List ℕ) → List ℕ

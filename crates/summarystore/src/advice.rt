@@ -1,6 +1,7 @@
 // What is said on standard error where the arguments aren't known.
 use crate::notice::notice_named;
 use crate::options::{Switch, switch_of};
+use ss_arguments::mode_of;
 use ss_watch::is_verb;
 use std::alloc::{AllocError, Global};
 
@@ -11,8 +12,8 @@ const COMMANDS: &str =
 
 const GEN: &str = "gen takes SEED, 0 to 2^64-1, and COUNT, 1 to 100000";
 
-const MODES: [&str; 7] = [
-    "run", "check", "sessions", "frames", "follow", "batch", "framed",
+const MODES: [&str; 8] = [
+    "run", "check", "gen", "sessions", "frames", "follow", "batch", "framed",
 ];
 
 // Whether a word is the first of a mode.
@@ -46,53 +47,61 @@ fn has_option(words: &[String], wanted: Switch) -> bool {
         .any(|switch| switch == Some(wanted))
 }
 
-// What is wrong with options before a mode of one word that is known.
+// What is wrong with options before words that ask for a mode by themselves.
 fn on_options(alloc: Global, options: &[String], mode: &str) -> Result<String, AllocError> {
-    if mode == "batch" || mode == "framed" {
-        format!(in alloc; "--{mode} stands for {mode}, and one of them is enough")
-    } else if has_option(options, Switch::Framed) {
+    if has_option(options, Switch::Framed) {
         format!(in alloc; "--framed is for runs and sessions, and {mode} is none of these")
     } else {
         format!(in alloc; "--batch is for runs, and {mode} isn't one")
     }
 }
 
-// What is wrong with the words that ask for a mode, of which none is an option.
-fn on_mode(alloc: Global, options: &[String], arguments: &[String]) -> Result<String, AllocError> {
-    let Some(mode) = arguments.first() else {
-        return String::from_str(alloc, NO_STORE);
-    };
-    let mode = mode.as_str();
-    if is_verb(mode) {
-        String::from_str(alloc, COMMANDS)
-    } else if mode == "gen" {
-        String::from_str(alloc, GEN)
-    } else if !is_mode(mode) {
-        format!(in alloc; "no mode is named {mode:?}")
-    } else if arguments.len() > 1 {
-        format!(in alloc; "no words follow {mode}")
-    } else {
-        on_options(alloc, options, mode)
+// What may follow the word of a mode, where other words do.
+fn on_followers(alloc: Global, mode: &str) -> Result<String, AllocError> {
+    match mode {
+        "gen" => String::from_str(alloc, GEN),
+        "sessions" => String::from_str(
+            alloc,
+            "only framed and batch follow sessions, in this order",
+        ),
+        "framed" | "frames" | "follow" => format!(in alloc; "only batch follows {mode}"),
+        _ => format!(in alloc; "no words follow {mode}"),
     }
 }
 
-// What is wrong with the words behind the store's path.
-fn on_arguments(
-    alloc: Global,
-    options: &[String],
-    arguments: &[String],
-) -> Result<String, AllocError> {
+// What is wrong with words, the store's path second, that ask for no mode or only without the options. None of those behind the
+// path is an option.
+fn on_mode(alloc: Global, options: &[String], words: &[String]) -> Result<String, AllocError> {
+    let [_, _, mode, ..] = words else {
+        return String::from_str(alloc, NO_STORE);
+    };
+    let mode = mode.as_str();
+    if mode_of(alloc, words)?.is_some() {
+        on_options(alloc, options, mode)
+    } else if is_verb(mode) {
+        String::from_str(alloc, COMMANDS)
+    } else if is_mode(mode) {
+        on_followers(alloc, mode)
+    } else {
+        format!(in alloc; "no mode is named {mode:?}")
+    }
+}
+
+// What is wrong with the words behind the store's path, which is the second.
+fn on_arguments(alloc: Global, options: &[String], words: &[String]) -> Result<String, AllocError> {
+    let arguments = words.get(2..).unwrap_or(&[]);
     match first_hyphened(arguments) {
         Some(option) if arguments.first().is_none_or(|mode| mode.as_str() != "gen") =>
             format!(in alloc; "{option:?} stands behind STORE, and options stand before it"),
-        _ => on_mode(alloc, options, arguments),
+        _ => on_mode(alloc, options, words),
     }
 }
 
 /// What is wrong with the words of the command line, its name first, where they aren't known.
 pub fn advice(alloc: Global, words: &[String]) -> Result<String, AllocError> {
     let options = words.get(1..).unwrap_or(&[]);
-    match behind_options(options) {
+    let behind = behind_options(options);
+    match behind {
         [] => String::from_str(alloc, NO_STORE),
         [notice, ..] if notice_named(notice.as_str()).is_some() => format!(in alloc;
             "{:?} stands alone",
@@ -102,6 +111,9 @@ pub fn advice(alloc: Global, words: &[String]) -> Result<String, AllocError> {
             "no option is named {:?}",
             path.as_str()
         ),
-        [_, arguments @ ..] => on_arguments(alloc, options, arguments),
+        _ => {
+            let front = options.len().saturating_sub(behind.len());
+            on_arguments(alloc, options, words.get(front..).unwrap_or(&[]))
+        }
     }
 }

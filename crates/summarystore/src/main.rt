@@ -19,7 +19,7 @@ use std::io::{ErrorKind, IsTerminal};
 use std::process::ExitCode;
 use std::rt::{Clock, Env, Files};
 use std::{env, io};
-use telling::{print_notice, tell, tell_run, tell_terminal, tell_usage};
+use telling::{print_notice, tell, tell_no_text, tell_run, tell_terminal, tell_usage};
 
 // The arguments of the command line, the program's name first.
 fn read_words<R: Env + AllocGlobal>(rt: &R) -> io::Result<Vec<String>> {
@@ -103,7 +103,8 @@ fn run_asked<R: Env + AllocGlobal + Input + Print + Eprint + Clock + Files<File 
     }
     match read_words(rt) {
         Ok(words) => tell_usage(rt, terminals.output, &words, number),
-        Err(_) => number,
+        Err(error) if error.kind() == ErrorKind::OutOfMemory => number,
+        Err(_) => tell_no_text(rt, terminals.output, number),
     }
 }
 

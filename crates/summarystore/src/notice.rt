@@ -5,7 +5,7 @@ ghost use Rattle.summarystore.specs.Plan.{notice_named, notice_of};
 
 /// The help text.
 pub const HELP: &str = "\
-usage: summarystore STORE [run | check | gen SEED COUNT | sessions | frames | follow]
+usage: summarystore STORE [run | check | gen SEED COUNT | [sessions] [framed] [batch] | frames [batch] | follow [batch]]
 
 Reads commands from standard input, one a line, and replies to each on standard
 output. STORE is the file that keeps the streams. It is made where there is none,

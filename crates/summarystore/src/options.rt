@@ -2,8 +2,8 @@
 ghost use Rattle.std.specs.Prelude.{◌≡◌, ◌≤◌, drop, length, IsSome, OnOk};
 ghost use Rattle.std.specs.Str.Parse.{starts_with_minus};
 ghost use Rattle.ss_arguments.specs.Modes.{words_of};
-ghost use Rattle.summarystore.specs.Plan.{first_switch, has_hyphen, names_run, no_options, options_of, switch_of};
-ghost use Rattle.summarystore.specs.Plan.{with_switch, with_word, without_options, without_run, without_unknown};
+ghost use Rattle.summarystore.specs.Plan.{asked_words, first_switch, has_hyphen, is_last, names_run, no_options, options_of, place_of_framed};
+ghost use Rattle.summarystore.specs.Plan.{switch_of, with_switch, with_word, without_options, without_run, without_unknown};
 
 use std::alloc::{AllocError, Global};
 
@@ -154,15 +154,59 @@ fn drop_run(words: &mut Vec<String>)
     }
 }
 
-/// Puts the word that `--batch` or `--framed` stands for after the words, where a store's path is among them, in place of `run`.
-/// After the word of a form it asks for more of that, and where a mode takes no such word it is one too many.
-pub fn put_word(alloc: Global, words: &mut Vec<String>, word: &str) -> Result<(), AllocError>
-    ensures { OnOk result (words_of words.new.items ≡ with_word word.now (words_of words.old.items)) }
+// Whether the last of the words behind the store's path is this one.
+fn is_last(words: &[String], word: &str) -> bool
+    ensures { result ≡ is_last word.now (words_of words.now) }
 {
-    if words.len() < 2 {
+    words.len() > 2 && words[words.len() - 1].as_str() == word
+}
+
+// Puts a word at a place behind the store's path, unless it stands in front of that place.
+fn put_word(
+    alloc: Global,
+    words: &mut Vec<String>,
+    place: usize,
+    word: &str,
+) -> Result<(), AllocError>
+    requires { place ≤ length words.old.items }
+    ensures { OnOk result (words_of words.new.items ≡ with_word place word.now (words_of words.old.items)) }
+{
+    if words.len() < 2 || is_last(&words[..place], word) {
         return Ok(());
     }
-    drop_run(words);
-    let last = String::from_str(alloc, word)?;
-    Ok(words.push(last)?)
+    let text = String::from_str(alloc, word)?;
+    Ok(words.insert(place, text)?)
+}
+
+// Where `framed` stands: at the end, or before `batch`.
+fn place_of_framed(words: &[String]) -> usize
+    ensures is { result ≡ place_of_framed (words_of words.now) }
+    ensures within { result ≤ length words.now }
+{
+    if is_last(words, "batch") {
+        words.len() - 1
+    } else {
+        words.len()
+    }
+}
+
+/// Puts the words that options stand for among those behind the store's path, each once and in place of `run`: `framed` at the end or
+/// before `batch`, and `batch` last. After the word of a form they ask for more of that, and where a mode takes no such word it is one
+/// too many.
+#[tactic(auto, unfolding(crate::specs::Plan::asked_words))]
+pub fn put_words(alloc: Global, options: Options, words: &mut Vec<String>) -> Result<(), AllocError>
+    ensures { OnOk result (words_of words.new.items ≡ asked_words options (words_of words.old.items)) }
+{
+    if options.is_framed || options.batches {
+        drop_run(words);
+    }
+    if options.is_framed {
+        let place = place_of_framed(words);
+        put_word(alloc, words, place, "framed")?;
+    }
+    if options.batches {
+        let place = words.len();
+        put_word(alloc, words, place, "batch")?;
+    }
+    Ok(())
 }

@@ -2,10 +2,10 @@
 ghost use Rattle.std.specs.Prelude.{◌≡◌, string_bytes, IfOk, OnOk};
 ghost use Rattle.ss_arguments.specs.Modes.{words_of};
 ghost use Rattle.ss_arguments.specs.Modes.{mode_of};
-ghost use Rattle.summarystore.specs.Plan.{asked_by, asked_words, form_in, path_of, planned, planned_by, run_of, status_with};
+ghost use Rattle.summarystore.specs.Plan.{asked_by, form_in, path_of, planned, planned_by, run_of, status_with};
 
 use crate::notice::{Notice, notice_of};
-use crate::options::{Options, put_word, take_options};
+use crate::options::{Options, put_words, take_options};
 use crate::wanted::{demand_of, missing_for};
 use ss_arguments::{Form, Mode, mode_of};
 use ss_file::{Demand, Missing};
@@ -72,19 +72,6 @@ fn run_of(alloc: Global, options: Options, words: Vec<String>) -> Result<Run, Al
         is_strict: options.is_strict,
         form: form_in(mode),
     })
-}
-
-// Puts the words that options stand for behind the others.
-fn put_words(alloc: Global, options: Options, words: &mut Vec<String>) -> Result<(), AllocError>
-    ensures { OnOk result (words_of words.new.items ≡ asked_words options (words_of words.old.items)) }
-{
-    if options.is_framed {
-        put_word(alloc, words, "framed")?;
-    }
-    if options.batches {
-        put_word(alloc, words, "batch")?;
-    }
-    Ok(())
 }
 
 /// What the program does by the words of the command line, its name first.

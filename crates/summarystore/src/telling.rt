@@ -75,6 +75,18 @@ pub fn tell_usage<R: Eprint + AllocGlobal>(
     number
 }
 
+/// Says on standard error that the words of the command line can't be read as text. Answers the status.
+pub fn tell_no_text<R: Eprint>(rt: &R, is_shown: bool, number: u8) -> u8
+    ensures { result ≡ number }
+{
+    let _ = tell_advice(
+        rt,
+        is_shown,
+        "an argument isn't text in UTF-8, as each has to be",
+    );
+    number
+}
+
 /// Says on standard error that frames aren't written to a terminal, where no file was touched. Answers the status.
 pub fn tell_terminal<R: Eprint>(rt: &R) -> u8
     ensures { result ≡ 2 }

@@ -8,7 +8,7 @@ use std::alloc::{AllocError, Global};
 use std::test::Fail;
 
 const USAGE: &str =
-    "usage: summarystore STORE [run | check | gen SEED COUNT | sessions | frames | follow]\n";
+    "usage: summarystore STORE [run | check | gen SEED COUNT | [sessions] [framed] [batch] | frames [batch] | follow [batch]]\n";
 
 // Whether the worked row, on a disk with memory taken ahead, ends well and makes neither the disk nor a sink short of memory.
 fn is_never_short<K: Sink>(

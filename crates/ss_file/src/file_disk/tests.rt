@@ -114,8 +114,8 @@ fn row_of(line: &'static str) -> Row {
 }
 
 const OPENINGS: &str = "\
-none,,,kind_of make streams lock kind sync_all sync_folder len read len ,
-file,,,kind_of make streams lock kind sync_all sync_folder len read len ,
+none,,,kind_of make streams lock kind sync_all open_folder sync_folder len read len ,
+file,,,kind_of make streams lock kind sync_all open_folder sync_folder len read len ,
 read-only,,,kind_of make open streams share kind sync_all len read len ,
 folder,,,kind_of ,is a folder
 pipe,,,kind_of ,is a pipe
@@ -133,13 +133,14 @@ error,,,kind_of make streams ,standard error goes into it
 file,streams,Other,kind_of make streams ,can't be opened
 file,lock,WouldBlock,kind_of make streams lock ,another process uses it
 read-only,share,WouldBlock,kind_of make open streams share ,another process uses it
-file,lock,Other,kind_of make streams lock ,can't be opened
+file,lock,Other,kind_of make streams lock ,can't be locked
 file,sync_all,InvalidInput,kind_of make streams lock kind sync_all ,a sync failed
 read-only,sync_all,InvalidInput,kind_of make open streams share kind sync_all len read len ,
 read-only,sync_all,Other,kind_of make open streams share kind sync_all ,a sync failed
-file,sync_folder,Other,kind_of make streams lock kind sync_all sync_folder ,a sync failed
-file,len,Other,kind_of make streams lock kind sync_all sync_folder len ,a read failed
-file,read,Other,kind_of make streams lock kind sync_all sync_folder len read ,a read failed
+file,open_folder,PermissionDenied,kind_of make streams lock kind sync_all open_folder ,its folder can't be opened
+file,sync_folder,Other,kind_of make streams lock kind sync_all open_folder sync_folder ,a sync failed
+file,len,Other,kind_of make streams lock kind sync_all open_folder sync_folder len ,a read failed
+file,read,Other,kind_of make streams lock kind sync_all open_folder sync_folder len read ,a read failed
 ";
 
 // The same where no file is made: it is only read.
@@ -156,7 +157,7 @@ file,share,WouldBlock,kind_of open streams share ,another process uses it
 const EXISTING: &str = "\
 none,,,kind_of folder ,no such file
 none,folder,NotFound,kind_of folder ,no such folder
-file,,,kind_of write_there streams lock kind sync_all sync_folder len read len ,
+file,,,kind_of write_there streams lock kind sync_all open_folder sync_folder len read len ,
 read-only,,,kind_of write_there open streams share kind sync_all len read len ,
 folder,,,kind_of ,is a folder
 file,write_there,NotFound,kind_of write_there ,no such file
@@ -279,13 +280,14 @@ fn a_call_that_fails_is_the_last(rt: HostRuntime) -> Result<(), Fail> {
 }
 
 // What has the path, the call that fails, how, and whether the reason has an error of the system.
-const REASONS: [(&str, &str, &str, bool); 9] = [
+const REASONS: [(&str, &str, &str, bool); 10] = [
     ("folder", "", "", false),
     ("output", "", "", false),
     ("file", "lock", "WouldBlock", false),
     ("file", "lock", "Other", true),
     ("file", "kind_of", "Other", true),
     ("none", "make", "NotFound", true),
+    ("file", "open_folder", "Other", true),
     ("file", "sync_folder", "Other", true),
     ("file", "len", "Other", true),
     ("file", "read", "Other", true),

@@ -16,6 +16,7 @@ fn fails<S: System>(system: &mut S) -> bool {
         && system.lock(Lock::Shared).is_err()
         && system.sync_data().is_err()
         && system.sync_all().is_err()
+        && system.sync_folder().is_err()
 }
 
 fn is<T: PartialEq + Drop>(answer: io::Result<T>, wanted: T) -> bool {
@@ -50,9 +51,12 @@ fn passes_errors_on<S: System>(system: &mut S, link: &str) -> bool {
         && is(system.write(0, b"abc"), 3)
         && system.sync_data().is_err()
         && system.sync_all().is_err()
-        && system.sync_folder("/proc/version").is_err()
-        && system.sync_folder(link).is_err()
-        && system.sync_folder("missing").is_err()
+        && system.open_folder("/proc/version").is_ok()
+        && system.sync_folder().is_err()
+        && system.open_folder(link).is_ok()
+        && system.sync_folder().is_err()
+        && system.open_folder("missing").is_err()
+        && system.sync_folder().is_err()
 }
 
 // Whether a file is made, locked, takes bytes and is synced.
@@ -63,7 +67,8 @@ fn keeps_bytes<S: System>(system: &mut S, path: &str) -> bool {
         && is(system.len(), 3)
         && system.sync_all().is_ok()
         && system.sync_data().is_ok()
-        && system.sync_folder(path).is_ok()
+        && system.open_folder(path).is_ok()
+        && system.sync_folder().is_ok()
 }
 
 // Whether the lock keeps others away, and a file that is opened to be read gives its bytes and takes none.
