@@ -7,7 +7,7 @@ from pathlib import Path
 import pytest
 
 import summarystore
-from summarystore import exporting, importing
+from summarystore import exporting, filling, importing
 
 
 def run(folder: Path, text: str, *words: str) -> int:
@@ -95,7 +95,7 @@ def test_few_rows_of_many_streams(program: str, folder: Path, monkeypatch: pytes
     most = 0
     send = importing.Import._send
 
-    def watched(work: importing.Import, into: importing.Into) -> None:
+    def watched(work: importing.Import, into: filling.Into) -> None:
         nonlocal most
         most = max(most, sum(len(each.waiting) for each in work._streams.values()))
         send(work, into)

@@ -16,9 +16,9 @@ from .errors import (CertificateError, CommandError, CursorBusyError, DamagedSto
                      NumberError, Outcome, outcome_of, OutOfMemoryError, OutputFaultError, ProcessEndedError,
                      ProgramMissingError, ProtocolError, RangeError, RecordChangedError, RefusedError,
                      ReopenedWarning, RoundedTimeWarning, RowsRefusedError, ScaleError, ServiceError,
-                     SourceError, StoreClosedError, StoreFileError, StoreFullError, StreamExistsError,
-                     StreamFullError, StreamNameError, SummaryStoreError, TargetError, TimeError,
-                     TooManyStreamsError, UnexpectedEndError, UnknownStreamError, UsageError)
+                     SourceError, StepWarning, StoreClosedError, StoreFileError, StoreFullError,
+                     StreamExistsError, StreamFullError, StreamNameError, SummaryStoreError, TargetError,
+                     TimeError, TooManyStreamsError, UnexpectedEndError, UnknownStreamError, UsageError)
 from .interval import Interval, Presence, mean_of
 from .names import Names
 from .program import StorePath, check
@@ -61,8 +61,8 @@ __all__ = [
     "NotANumberError", "NoValueError", "NumberError", "Outcome", "OutOfMemoryError", "OutputFaultError",
     "Presence", "ProcessEndedError", "ProgramMissingError", "ProtocolError", "RangeError", "Reading",
     "RecordChangedError", "RefusedError", "RemoteStore", "ReopenedWarning", "RoundedTimeWarning", "Row",
-    "RowsRefusedError", "ScaleError", "Series", "ServiceError", "Soundness", "SourceError", "Store",
-    "StoreClosedError", "Stored", "StoreFileError", "StoreFullError", "Stream", "StreamExistsError",
+    "RowsRefusedError", "ScaleError", "Series", "ServiceError", "Soundness", "SourceError", "StepWarning",
+    "Store", "StoreClosedError", "Stored", "StoreFileError", "StoreFullError", "Stream", "StreamExistsError",
     "StreamFullError", "StreamNameError", "SummaryStoreError", "TargetError", "TimeError",
     "TooManyStreamsError", "UnexpectedEndError", "UnknownStreamError", "UsageError", "Window", "check",
     "connect", "mean_of", "now", "open", "outcome_of",

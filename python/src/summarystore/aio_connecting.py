@@ -85,7 +85,7 @@ class RemoteStore(Questions):
         return ask.result(told)
 
     async def _do(self, call: Call[T]) -> T:
-        return await self._ask(remote.question(call))
+        return call.answer([reply for ask in remote.questions(call.lines) for reply in await self._ask(ask)])
 
     # ---- streams ------------------------------------------------------------------------
 

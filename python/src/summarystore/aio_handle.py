@@ -3,6 +3,7 @@
 from __future__ import annotations
 
 import asyncio
+import datetime
 from collections.abc import AsyncIterator, Mapping, Sequence
 from contextlib import AbstractAsyncContextManager
 from typing import TYPE_CHECKING
@@ -93,9 +94,10 @@ class Handle:
         """As `Store.has`."""
         return await self.store.has(self.name, value, t1, t2)
 
-    async def series(self, kind: Kind, t1: object | None, t2: object | None, step: object) -> Series:
+    async def series(self, kind: Kind, t1: object | None, t2: object | None, step: object,
+                     zone: str | datetime.tzinfo | None = None) -> Series:
         """As `Store.series`."""
-        return await self.store.series(self.name, kind, t1, t2, step)
+        return await self.store.series(self.name, kind, t1, t2, step, zone)
 
     async def estimate(self, kind: Estimated, t1: object | None = None, t2: object | None = None
                        ) -> Estimate:

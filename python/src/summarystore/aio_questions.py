@@ -2,13 +2,14 @@
 
 from __future__ import annotations
 
+import datetime
 from collections.abc import Sequence
 from typing import TypeVar
 
-from . import calls, integrals
+from . import calls, integrals, row_calls
 from .calls import Call
 from .certificate import Certificate
-from .codec import Codec, Translator
+from .codec import Codec, Translator, codec_of
 from .combining import Part
 from .gauges import must_be_gauge
 from .interval import Interval, Presence
@@ -76,12 +77,22 @@ class Questions:
         """Whether one of the values from t1 to t2 is this one."""
         return await self._do(calls.has(self._translator.codec(name), value, t1, t2))
 
-    async def series(self, name: str, kind: Kind, t1: object | None, t2: object | None, step: object
-                     ) -> Series:
-        """The answers to `query` for each step from t1 to t2: at most 100,000 rows."""
-        codec = self._translator.codec(name)
+    async def series(self, name: str, kind: Kind, t1: object | None, t2: object | None, step: object,
+                     zone: str | datetime.tzinfo | None = None) -> Series:
+        """The answers to `query` for each step from t1 to t2: at most 100,000 rows.
+
+        With a zone, here or of the store, `1d`, `1w`, `1mon` and `1y` are its days, weeks, months and years,
+        from midnight to midnight: from the one that t1 is in to that of t2, each of them whole.
+        """
+        codec = codec_of(self._translator, name, zone)
         begun = await self._begun(codec, kind)
         return await self._do(integrals.series(name, codec, kind, t1, t2, step, begun))
+
+    async def rows(self, name: str, kind: Kind, edges: Sequence[int]) -> Series:
+        """The answers to `query` from each of some times until before the next, by whole numbers."""
+        codec = self._translator.codec(name)
+        begun = await self._begun(codec, kind)
+        return await self._do(integrals.rows(name, codec, kind, edges, begun))
 
     async def estimate(self, name: str, kind: Estimated, t1: object | None = None, t2: object | None = None
                        ) -> Estimate:
@@ -91,7 +102,8 @@ class Questions:
     async def estimates(self, name: str, kind: Estimated, t1: object | None, t2: object | None, step: object
                         ) -> Sequence[EstimateRow]:
         """The answers to `estimate` for each step from t1 to t2: at most 100,000 rows."""
-        return await self._do(calls.estimates(self._translator.codec(name), kind, t1, t2, step))
+        codec = self._translator.codec(name)
+        return await self._do(row_calls.estimates(name, codec, kind, t1, t2, step))
 
     async def figures(self, name: str, kinds: Sequence[str], t1: object | None = None,
                       t2: object | None = None, step: object | None = None) -> Sequence[Part]:

@@ -10,18 +10,14 @@ from . import certificate, wire
 from .certificate import Certificate
 from .codec import Codec, Translator, streams_of
 from .combining import KINDS, Part
-from .description import unit_of
 from .errors import CertificateError, refusal_of
 from .interval import Interval, Presence, mean_of
 from .kinds import ENDS, ESTIMATED, KINDS as ASKED, one_of
 from .meters import Standing, increase_of, must_be_counter
-from .records import Estimate, EstimateRow, Last, Reading, Row, Stored, Stream, Time, Window
-from .series import Series
+from .records import Estimate, Last, Reading, Stored, Stream, Time, Window
 from .wire import Reply
 
 T = TypeVar("T")
-MOST_ROWS = 100_000
-"""Rows of a series that the program doesn't make itself."""
 
 
 @dataclass(frozen=True)
@@ -152,7 +148,7 @@ def value_at(codec: Codec, time: object) -> Call[Interval]:
     return Call([_until(codec, codec.end(time))], lambda replies: _interval(codec, "max", replies[0]))
 
 
-def _increases(codec: Codec, times: Sequence[int]) -> Call[Sequence[Interval]]:
+def increases(codec: Codec, times: Sequence[int]) -> Call[Sequence[Interval]]:
     """By how much a counter rose from each of some times until the next."""
     must_be_counter(codec)
     lines = [wire.query(codec.short, "min", 0, wire.LAST_TIME), *(_until(codec, time) for time in times)]
@@ -169,21 +165,8 @@ def increase(codec: Codec, first: object, last_time: object) -> Call[Interval]:
     times = codec.begin(first), codec.end(last_time)
     if times[1] < times[0]:
         raise refusal_of("RANGE", f"increase {codec.short} {times[0]} {times[1]}")
-    inner = _increases(codec, times)
+    inner = increases(codec, times)
     return Call(inner.lines, lambda replies: inner.result(replies)[0])
-
-
-def increase_rows(codec: Codec, first: object, last_time: object, step: object
-                  ) -> Call[Sequence[tuple[int, Interval]]]:
-    """The same in rows: from each step until the next."""
-    begin, end, each = codec.begin(first), codec.end(last_time), codec.step(step)
-    if each < 1 or end < begin:
-        raise refusal_of("RANGE", f"series {codec.short} increase {begin} {end} {each}")
-    if (end - begin) // each >= MOST_ROWS:
-        raise refusal_of("NUMBER", f"series {codec.short} increase {begin} {end} {each}")
-    starts = range(begin, max(end, begin + 1), each)
-    inner = _increases(codec, [*starts, max(end, begin)])
-    return Call(inner.lines, lambda replies: list(zip(starts, inner.result(replies))))
 
 
 def query(codec: Codec, kind: str, first: object, last_time: object) -> Call[Interval]:
@@ -225,7 +208,7 @@ def figures(codec: Codec, kinds: Sequence[str], first: object, last_time: object
     def column(kind: str, reply: Reply) -> Sequence[Interval]:
         if step is None:
             return [_interval(codec, kind, reply)]
-        return [_row(codec, kind, row)[1] for row in wire.rows_of(reply, "series")]
+        return [row_of(codec, kind, row)[1] for row in wire.rows_of(reply, "series")]
 
     def result(replies: Sequence[Reply]) -> Sequence[Part]:
         return [dict(zip(kinds, row)) for row in zip(*map(column, kinds, replies))]
@@ -238,35 +221,8 @@ def has(codec: Codec, value: object, first: object, last_time: object) -> Call[P
     return Call([line], lambda replies: wire.presence_of(replies[0]))
 
 
-def series(name: str, codec: Codec, kind: str, first: object, last_time: object, step: object
-           ) -> Call[Series]:
-    """The rows of one kind, or of the mean."""
-    if kind == "increase":
-        asked = increase_rows(codec, first, last_time, step)
-        return Call(asked.lines, lambda replies: series_of(name, codec, kind, asked.result(replies)))
-    kinds = KINDS if one_of(kind, ASKED) == "mean" else (kind,)
-    here = codec.begin(first), codec.end(last_time), codec.step(step)
-    lines = [wire.series(codec.short, each, *here) for each in kinds]
-
-    def result(replies: Sequence[Reply]) -> Series:
-        columns = [[_row(codec, each, row) for row in wire.rows_of(reply, "series")]
-                   for each, reply in zip(kinds, replies)]
-        if kind == "mean":
-            rows = [(c[0], mean_of(s[1], c[1], least[1], greatest[1]))
-                    for c, s, least, greatest in zip(*columns)]
-        else:
-            rows = columns[0]
-        return series_of(name, codec, kind, rows)
-    return Call(lines, result)
-
-
-def series_of(name: str, codec: Codec, kind: str, rows: Sequence[tuple[int, Interval]]) -> Series:
-    """Rows as they are shown."""
-    return Series(name, kind, unit_of(codec.description, kind),
-                  [Row(codec.time_back(start), interval) for start, interval in rows])
-
-
-def _row(codec: Codec, kind: str, row: str) -> tuple[int, Interval]:
+def row_of(codec: Codec, kind: str, row: str) -> tuple[int, Interval]:
+    """A row of the program's `series`: where it begins, and its answer."""
     start, _, text = row.partition(" ")
     return wire.numbers(start, 1)[0], codec.interval_back(kind, wire.interval_of(text))
 
@@ -274,24 +230,13 @@ def _row(codec: Codec, kind: str, row: str) -> tuple[int, Interval]:
 def estimate(codec: Codec, kind: str, first: object, last_time: object) -> Call[Estimate]:
     """The interval of a count or a sum, and the likeliest number in it."""
     line = wire.estimate(codec.short, one_of(kind, ESTIMATED), codec.begin(first), codec.end(last_time))
-    return Call([line], lambda replies: _estimate(codec, kind, wire.after(replies[0].head, "estimate")))
+    return Call([line], lambda replies: estimate_of(codec, kind, wire.after(replies[0].head, "estimate")))
 
 
-def _estimate(codec: Codec, kind: str, text: str) -> Estimate:
+def estimate_of(codec: Codec, kind: str, text: str) -> Estimate:
+    """What the program says of an estimate."""
     interval, guess = wire.estimate_of(text)
     return Estimate(codec.interval_back(kind, interval), codec.interval_back(kind, Interval(guess)).lo)
-
-
-def estimates(codec: Codec, kind: str, first: object, last_time: object, step: object
-              ) -> Call[Sequence[EstimateRow]]:
-    """The same in rows."""
-    here = codec.begin(first), codec.end(last_time), codec.step(step)
-
-    def result(replies: Sequence[Reply]) -> Sequence[EstimateRow]:
-        rows = [row.partition(" ") for row in wire.rows_of(replies[0], "estimates")]
-        return [EstimateRow(codec.time_back(wire.numbers(start, 1)[0]), *_estimate(codec, kind, text))
-                for start, _, text in rows]
-    return Call([wire.estimates(codec.short, one_of(kind, ESTIMATED), *here)], result)
 
 
 def values(codec: Codec, first: object, last_time: object) -> Call[Sequence[Reading]]:

@@ -33,6 +33,14 @@ DOTTED = re.compile(r"([0-9]{1,2})\.([0-9]{1,2})\.([0-9]{4})\b")
 FINE = re.compile(r"([^.,]*[:T ](?:[0-9]{2}:[0-9]{2}:[0-9]{2}|[0-9]{6}))[.,]([0-9]+)([^.,]*)")
 
 
+class TwiceError(TimeError):
+    """A clock shows a time twice. `both` are the two, in nanoseconds since 1970."""
+
+    def __init__(self, told: str, both: tuple[int, int]) -> None:
+        super().__init__(told)
+        self.both = both
+
+
 def nanoseconds(moment: datetime.datetime, zone: datetime.tzinfo | None) -> int:
     """Nanoseconds since 1970 of a datetime, in this zone where it has none of its own.
 
@@ -53,8 +61,12 @@ def nanoseconds(moment: datetime.datetime, zone: datetime.tzinfo | None) -> int:
         moment = _in_zone(moment.replace(tzinfo=None), zone)
     elif not isinstance(moment.tzinfo, datetime.timezone) and not _is_shown(moment):
         raise TimeError(f"{moment.isoformat(' ')}: the clock never shows it there")
+    return _since_1970(moment) + int(fine)
+
+
+def _since_1970(moment: datetime.datetime) -> int:
     since = moment - START
-    return (since.days * 86400 + since.seconds) * 10**9 + since.microseconds * 1000 + int(fine)
+    return (since.days * 86400 + since.seconds) * 10**9 + since.microseconds * 1000
 
 
 def _is_shown(moment: datetime.datetime) -> bool:
@@ -71,8 +83,10 @@ def _in_zone(moment: datetime.datetime, zone: datetime.tzinfo) -> datetime.datet
     if one.utcoffset() != other.utcoffset():
         there = any(each.astimezone(UTC).astimezone(zone).replace(tzinfo=None) == moment.replace(fold=0)
                     for each in (one, other))
-        shows = "twice" if there else "never"
-        raise TimeError(f"{moment.isoformat(' ')} in {zone}: the clock shows it {shows}; give its offset")
+        told = f"{moment.isoformat(' ')} in {zone}: the clock shows it {{}}; give its offset"
+        if there:
+            raise TwiceError(told.format("twice"), (_since_1970(one), _since_1970(other)))
+        raise TimeError(told.format("never"))
     return one
 
 
@@ -90,6 +104,8 @@ def moment_of(text: str, zone: datetime.tzinfo | None) -> int:
         text = fine[1] + fine[3]
     try:
         return nanoseconds(datetime.datetime.fromisoformat(text), zone) + extra
+    except TwiceError as error:
+        raise TwiceError(str(error), (error.both[0] + extra, error.both[1] + extra)) from None
     except TimeError:
         raise
     except ValueError:
@@ -235,7 +251,7 @@ class Clock:
 
     def day(self, day: datetime.date) -> int:
         """Nanoseconds from 1970 to a day in UTC."""
-        return nanoseconds(datetime.datetime(day.year, day.month, day.day, tzinfo=UTC), None)
+        return midnight(day, UTC)
 
     def begin(self, given: object) -> int:
         """The first count at a time or after it."""
@@ -277,6 +293,15 @@ class Clock:
         """The present count."""
         present = datetime.datetime.now(UTC)
         return _checked((nanoseconds(present, None) - self._origin) // self._step, present)
+
+    @property
+    def zone(self) -> datetime.tzinfo | None:
+        """That of times which have none, and of days."""
+        return self._zone
+
+    def counting(self) -> tuple[int, int]:
+        """Nanoseconds from 1970 to the first time, and those of a count."""
+        return self._origin, self._step
 
     def back(self, count: int) -> Time:
         """A count as a datetime, or as it is where no datetime says it."""
@@ -328,15 +353,20 @@ class Clock:
             later = day + datetime.timedelta(days=days)
         except OverflowError:
             raise TimeError(f"{day} is the last day there is") from None
-        # Where no clock shows midnight, this is when the clock goes forward: the first moment of the day.
-        offset = datetime.datetime(later.year, later.month, later.day, tzinfo=zone).utcoffset()
-        return self.day(later) - (span_of(offset) if offset else 0)
+        return midnight(later, zone)
 
 
 def _checked(count: int, given: object) -> int:
     if not 0 <= count <= LAST_TIME:
         raise TimeError(f"{given} is before the first time of the stream, or after the last")
     return count
+
+
+def midnight(day: datetime.date, zone: datetime.tzinfo) -> int:
+    """Nanoseconds since 1970 of the first moment of a day in a zone. Where no clock shows midnight it is when
+    the clock goes forward, and where one shows it twice the first."""
+    offset = datetime.datetime(day.year, day.month, day.day, tzinfo=zone).utcoffset()
+    return (day - START.date()).days * _SPANS["d"] - (span_of(offset) if offset else 0)
 
 
 def zone_of(zone: str | datetime.tzinfo | None) -> datetime.tzinfo | None:
@@ -348,5 +378,5 @@ def zone_of(zone: str | datetime.tzinfo | None) -> datetime.tzinfo | None:
         return zone
     try:
         return zoneinfo.ZoneInfo(zone)
-    except (zoneinfo.ZoneInfoNotFoundError, ValueError):
+    except (zoneinfo.ZoneInfoNotFoundError, ValueError, OSError):
         raise TimeError(f"no such zone: {zone}") from None

@@ -3,9 +3,11 @@ plain form of it, which gives and takes whole numbers as they are."""
 
 from __future__ import annotations
 
+import datetime
 from collections.abc import Callable, Container, Iterable, Sequence
 from typing import NamedTuple, Protocol, cast
 
+from .calendars import Calendar, Counting
 from .decimals import Number
 from .description import Description
 from .errors import DescriptionError, NumberError, SummaryStoreError, UnknownStreamError
@@ -19,6 +21,8 @@ class Codec(Protocol):
 
     short: str
     description: Description | None
+    told: set[str]
+    """What was told of the stream, and isn't told again."""
 
     def time(self, given: object) -> int:
         """A time of the stream."""
@@ -49,6 +53,15 @@ class Codec(Protocol):
 
     def interval_back(self, kind: str, interval: Interval) -> Interval:
         """An answer as it is shown."""
+
+    def in_zone(self, zone: str | datetime.tzinfo) -> Codec:
+        """The same, with times of this zone."""
+
+    def calendar(self, step: object) -> Calendar | None:
+        """The calendar that a step asks for. None where it is a span of time."""
+
+    def counting(self) -> Counting:
+        """How it counts."""
 
 
 class Change(NamedTuple):
@@ -106,6 +119,7 @@ class PlainCodec:
 
     def __init__(self, short: str, standing: Container[str] | None = None) -> None:
         self.short = short
+        self.told: set[str] = set()
         self._standing = standing
 
     def whole(self, given: object) -> int:
@@ -158,6 +172,18 @@ class PlainCodec:
     def interval_back(self, kind: str, interval: Interval) -> Interval:
         """The interval."""
         return interval
+
+    def in_zone(self, zone: str | datetime.tzinfo) -> Codec:
+        """Not known: what the times count isn't told."""
+        raise DescriptionError(f"{self.short} has no description, so it has no days of a zone")
+
+    def calendar(self, step: object) -> Calendar | None:
+        """None: a step is a whole number."""
+        return None
+
+    def counting(self) -> Counting:
+        """Counts alone."""
+        return Counting(0, 1)
 
 
 class Plain:
@@ -224,6 +250,12 @@ def pairs(rows: object) -> Iterable[tuple[object, object]]:
     if not isinstance(found, Iterable):
         raise TypeError(f"{rows!r} isn't rows of a time and a value")
     return found
+
+
+def codec_of(translator: Translator, name: str, zone: str | datetime.tzinfo | None) -> Codec:
+    """That of a stream, with times of a zone where one is given."""
+    codec = translator.codec(name)
+    return codec if zone is None else codec.in_zone(zone)
 
 
 def streams_of(rows: Sequence[str]) -> list[Stream]:

@@ -90,7 +90,7 @@ class RemoteStore(Questions):
         return ask.result(told)
 
     def _do(self, call: Call[T]) -> T:
-        return self._ask(remote.question(call))
+        return call.answer([reply for ask in remote.questions(call.lines) for reply in self._ask(ask)])
 
     # ---- streams ------------------------------------------------------------------------
 

@@ -411,6 +411,11 @@ class RoundedTimeWarning(UserWarning):
     """A time was rounded down to the steps of its stream. It is told once for each stream."""
 
 
+class StepWarning(UserWarning):
+    """Rows of a zone don't begin where the step of a stream has its boundaries. It is told once for each
+    stream and zone."""
+
+
 class ReopenedWarning(UserWarning):
     """The program had ended, and the store was opened again."""
 

@@ -7,12 +7,13 @@ import csv
 import datetime
 import json
 import sys
+import warnings
 from collections.abc import Iterable, Iterator, Sequence
 from decimal import Decimal
 from typing import TextIO
 
 from .clock import COUNT, for_commands
-from .errors import SummaryStoreError
+from .errors import StepWarning, SummaryStoreError
 from .names import Names
 from .series import Series, index_of
 from .store import Store
@@ -100,11 +101,12 @@ def arguments() -> argparse.ArgumentParser:
     what.add_argument("--series", choices=["count", "sum", "min", "max", "mean"], help="a series")
     add("--from", dest="first", help="the first time (default: that of the stream)")
     add("--to", dest="last", help="the last time (default: that of the stream)")
-    add("--step", help="of a series, as 1h or 365d (default: about 200 rows)")
+    add("--step", help="of a series, as 1h or 365d (default: about 200 rows); with --zone 1d, 1w, 1mon and "
+        "1y are its days, weeks, months and years, from midnight to midnight")
     add("--format", choices=["csv", "jsonl", "parquet"], default="csv")
     add("--output", "-o", help="a file (default: standard output)")
     add("--plot", metavar="FILE", help="draws the series into this file instead, as .svg or .png")
-    add("--zone", help="of times without one, and of those that are written")
+    add("--zone", help="of times without one, of those that are written, and of days")
     add("--program", help="the path of the program summarystore")
     return parser
 
@@ -141,7 +143,11 @@ def export(store: Store, words: argparse.Namespace) -> int:
         write(words, WINDOWS, window_cells(store, words.name))
         return 0
     told = [as_told(store, words.name, word) for word in (words.first, words.last, words.step)]
-    series, last = store.whole_series(words.name, words.series, *told)
+    with warnings.catch_warnings(record=True) as told_of_steps:
+        warnings.simplefilter("always", StepWarning)
+        series, last = store.whole_series(words.name, words.series, *told)
+    for warning in told_of_steps:
+        print(f"summarystore-export: {warning.message}", file=sys.stderr)
     if words.plot:
         from .plotting import draw
         draw(series, store.ends(words.name, last)).figure.savefig(words.plot)

@@ -98,7 +98,8 @@ class GaugeCodec:
         self.time, self.begin, self.end = codec.time, codec.begin, codec.end
         self.step, self.now, self.value = codec.step, codec.now, codec.value
         self.time_back, self.value_back = codec.time_back, codec.value_back
-        self.interval_back = codec.interval_back
+        self.interval_back, self.told = codec.interval_back, codec.told
+        self.in_zone, self.calendar, self.counting = codec.in_zone, codec.calendar, codec.counting
         self._codec, self._gauge, self._beside = codec, gauge, beside
 
     def rows(self, given: Sequence[tuple[object, object]]) -> Sequence[tuple[int, int]]:

@@ -2,6 +2,7 @@
 
 from __future__ import annotations
 
+import datetime
 import time as clock
 from collections.abc import Iterator, Mapping, Sequence
 from contextlib import AbstractContextManager
@@ -92,9 +93,10 @@ class Handle:
         """As `Store.has`."""
         return self.store.has(self.name, value, t1, t2)
 
-    def series(self, kind: Kind, t1: object | None, t2: object | None, step: object) -> Series:
+    def series(self, kind: Kind, t1: object | None, t2: object | None, step: object,
+               zone: str | datetime.tzinfo | None = None) -> Series:
         """As `Store.series`."""
-        return self.store.series(self.name, kind, t1, t2, step)
+        return self.store.series(self.name, kind, t1, t2, step, zone)
 
     def estimate(self, kind: Estimated, t1: object | None = None, t2: object | None = None) -> Estimate:
         """As `Store.estimate`."""

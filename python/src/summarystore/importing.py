@@ -9,18 +9,19 @@ import gc
 import os
 import sqlite3
 import sys
-from collections.abc import Callable, Iterator, Sequence
+from collections.abc import Iterator, Sequence
 from contextlib import contextmanager
-from dataclasses import dataclass, field
 from itertools import islice
 from operator import itemgetter
 from pathlib import Path
 from typing import cast
 
-from . import clock, tables, timeforms, wire
-from .codec import Codec, PlainCodec
-from .description import NANOSECONDS, ROUNDINGS, Description, description_of
+from . import clock, import_arguments, proposals, tables, timeforms, wire
+from .codec import Codec
+from .description import Description, description_of
 from .errors import LateError, NotANumberError, SourceError, SummaryStoreError, TimeError
+from .filling import Into, NumberedCodec, Numbers
+from .folding import Order, PassedOverError
 from .late import ReorderBuffer
 from .meters import must_not_count
 from .names import DescribedCodec, Names, short_name
@@ -35,51 +36,6 @@ from .timeforms import TimeForm
 BATCH = 5000
 MOST_WAITING = 100_000
 SHOWN = 20
-DEFAULT_TARGET = "power 1 1 4 1"
-
-
-Numbers = tuple[int, int, int]
-"""A time, a value, and the line of the table that has them."""
-
-
-class NumberedCodec(PlainCodec):
-    """Whole numbers, and behind them the line of the table."""
-
-    def rows(self, given: Sequence[tuple[object, object]]) -> Sequence[tuple[int, int]]:
-        """Without the lines."""
-        return [row[:2] for row in cast("Sequence[Numbers]", given)]
-
-
-@dataclass
-class Into:
-    """A stream that is being filled: how it is read, and what was made of its rows.
-
-    What is as old as `before_that`, its last time at the begin, is there. `newest` is that of a dry run.
-    A time after `latest` lies too far ahead of the clock.
-    """
-
-    name: str
-    codec: Codec
-    exists: bool
-    times_of: Callable[[Sequence[str]], Sequence[int]]
-    scale: Scale
-    sending: Sending
-    latest: int | None = None
-    before_that: int = -1
-    newest: int = -1
-    span: tuple[int, int] = (wire.LAST_TIME, 0)
-    buffer: ReorderBuffer[Numbers] | None = None
-    waiting: list[tuple[int, str, str]] = field(default_factory=list)
-    stored: int = 0
-    before: int = 0
-    refused: int = 0
-    empty: int = 0
-
-    def said(self, dry: bool) -> str:
-        """What became of the rows."""
-        stored = f"{self.stored} rows {'to store' if dry else 'stored'}"
-        empty = f", {self.empty} without a value" if self.empty else ""
-        return f"{self.name}: {stored}, {self.before} there before, {self.refused} refused{empty}"
 
 
 class Import:
@@ -98,6 +54,9 @@ class Import:
         self._name_column = None if words.stream is None else _column(table, words.stream, None)
         self._values = self._value_columns()
         self._form = self._time_form()
+        self._is_by_minutes = self._form.is_by_minutes(self._times())
+        self._target = words.target or proposals.DEFAULT_TARGET
+        self._is_proposed = words.quiet and not words.dry_run
         self._lateness = words.lateness
         self._until = _ahead(words.future)
         for column in self._values:
@@ -123,8 +82,11 @@ class Import:
             raise SourceError("no column holds numbers: give --value")
         return found
 
+    def _times(self) -> Sequence[str]:
+        return [_cell(record, self._time_column) for record in self._table.sample]
+
     def _time_form(self) -> TimeForm:
-        texts = [_cell(record, self._time_column) for record in self._table.sample]
+        texts = self._times()
         if self._words.time_unit:
             described = description_of(time=self._words.time_unit, since=self._words.since)
             assert described is not None
@@ -150,7 +112,7 @@ class Import:
         lines = [f"{self._words.source}: {self._table.shown}, times as {self._form}"]
         for column in self._values if self._name_column is None else ():
             lines.append(f"{self._name(column, '')}: from column {column + 1}, scale {self._scale(column)}, "
-                         f"time {self._resolution()}, target {self._words.target}{self._within()}")
+                         f"time {self._resolution()}, target {self._target}{self._within()}")
         used = {self._time_column, self._name_column, *self._values}
         others = [head or f"column {at + 1}" for at, head in enumerate(self._table.heads) if at not in used]
         if others:
@@ -166,7 +128,17 @@ class Import:
         return found
 
     def _resolution(self) -> str:
-        return str(self._words.resolution or self._form.resolution)
+        return str(self._words.resolution or ("minute" if self._is_by_minutes else self._form.resolution))
+
+    def _propose(self) -> None:
+        """Says of streams that are made, once, how more of them would be known exactly."""
+        if not self._is_proposed:
+            words, resolution = self._words, self._resolution()
+            told = proposals.of_times(self._is_by_minutes, resolution, words.resolution is not None)
+            if words.target is None and words.within is None:
+                told += proposals.of_targets(self._form, self._times(), resolution)
+            print("".join(f"{line}\n" for line in told), end="")
+        self._is_proposed = True
 
     def _name(self, column: int, cell: str) -> str:
         """The name of a stream: that of its column, or of the cell that names it."""
@@ -198,7 +170,7 @@ class Import:
         for into in self._streams.values():
             print(into.said(self._words.dry_run))
         missing = [into for into in self._streams.values() if into.before and not self._is_there(into)]
-        return not missing and not any(into.refused for into in self._streams.values())
+        return not missing and not any(into.left for into in self._streams.values())
 
     def _is_there(self, into: Into) -> bool:
         """Whether what is taken to be there can be: the stream may have newer readings of elsewhere."""
@@ -265,7 +237,9 @@ class Import:
         def refused(row: tuple[object, object], error: Exception) -> None:
             self._refuse(into, cast(Numbers, row)[2], error)
         sending = Sending(NumberedCodec(codec.short), (), refused, None)
-        into = Into(name, codec, name in self._standing, self._form.column(codec), scale, sending)
+        order = Order() if self._words.fold else None
+        times_of = self._form.column(codec, None if order is None else order.moment)
+        into = Into(name, codec, name in self._standing, times_of, scale, sending, order=order)
         if self._store is not None and into.exists:
             found = self._store.last_count(name)
             into.newest = into.before_that = -1 if found is None else found
@@ -283,9 +257,10 @@ class Import:
             must_not_count(codec, "its table goes by append_many")
             return codec
         description = self._description(column)
+        self._propose()
         if self._store is None or words.dry_run:
             return DescribedCodec(short_name(name, description), description, self._zone)
-        self._store.create(name, words.target, words.within, scale=description.scale,
+        self._store.create(name, self._target, words.within, scale=description.scale,
                            time=description.time, since=description.since, unit=description.unit,
                            rounding=description.rounding)
         self._standing.add(name)
@@ -303,16 +278,26 @@ class Import:
     def _numbers(self, into: Into, waiting: Sequence[tuple[int, str, str]]) -> Sequence[Numbers]:
         """Rows as numbers: all at once, or one by one where one of them is none."""
         try:
-            return self._as_numbers(into, waiting)
+            return self._in_order(into, waiting)
         except SummaryStoreError:
             pass
         rows: list[Numbers] = []
         for row in waiting:
             try:
-                rows += self._as_numbers(into, [row])
+                rows += self._in_order(into, [row])
             except SummaryStoreError as error:
                 self._refuse(into, row[0], error)
         return rows
+
+    def _in_order(self, into: Into, waiting: Sequence[tuple[int, str, str]]) -> Sequence[Numbers]:
+        """Rows as numbers. Those that are none have no part in the order of the table."""
+        newest = None if into.order is None else into.order.newest
+        try:
+            return self._as_numbers(into, waiting)
+        except SummaryStoreError:
+            if into.order is not None:
+                into.order.newest = newest
+            raise
 
     def _as_numbers(self, into: Into, waiting: Sequence[tuple[int, str, str]]) -> Sequence[Numbers]:
         texts = [text for _, _, text in waiting]
@@ -333,16 +318,36 @@ class Import:
             into.stored = self._store.send_rest(into.sending)
 
     def _store_rows(self, into: Into, rows: Sequence[Numbers]) -> None:
-        kept = [row for row in rows if row[0] > into.before_that]
-        if len(kept) < len(rows):
-            times = [row[0] for row in rows if row[0] <= into.before_that]
-            into.span = min(into.span[0], *times), max(into.span[1], *times)
-        into.before += len(rows) - len(kept)
+        if any(row[0] <= into.before_that for row in rows):
+            rows = [row for row in rows if self._is_new(into, row)]
         if self._store is None or self._words.dry_run:
-            self._only_look(into, kept)
-        elif kept:
-            into.sending.more(kept)
+            self._only_look(into, rows)
+        elif rows:
+            into.sending.more(rows)
             self._store.send_some(into.sending)
+
+    def _is_new(self, into: Into, row: Numbers) -> bool:
+        """Whether a row is later than the stream's last time. One that isn't is there before where it is
+        later than those of the table which are, and else it is passed over."""
+        time, _, line = row
+        if time > into.before_that:
+            return True
+        rises, into.risen = time > into.risen, max(into.risen, time)
+        if not rises:
+            self._refuse(into, line, PassedOverError("it isn't later than the rows before it: passed over"))
+        elif into.order is not None and self._may_be_second(into, into.order, time):
+            self._refuse(into, line, PassedOverError("the table begins in an hour that comes twice, and the "
+                                                     "stream has passed the first: passed over"))
+        else:
+            into.span = min(into.span[0], time), max(into.span[1], time)
+            into.before += 1
+        return False
+
+    def _may_be_second(self, into: Into, order: Order, time: int) -> bool:
+        """Whether a time may be of the second of two hours, and its reading isn't surely there."""
+        if self._store is None or not order.is_unsure(into.codec.counting().moment(time)):
+            return False
+        return self._store.codec_query(into.codec, "count", time, time).lo < 1
 
     def _only_look(self, into: Into, rows: Sequence[Numbers]) -> None:
         """Counts what would be stored, and shows what would be refused as late."""
@@ -354,7 +359,10 @@ class Import:
                 self._refuse(into, line, LateError("TIME", wire.append(into.codec.short, time, value)))
 
     def _refuse(self, into: Into, line: int, error: Exception) -> None:
-        into.refused += 1
+        if isinstance(error, PassedOverError):
+            into.passed += 1
+        else:
+            into.refused += 1
         self._shown += 1
         if self._shown <= SHOWN:
             print(f"line {line}: {into.name}: {clock.for_commands(error)}", file=sys.stderr)
@@ -417,55 +425,12 @@ def _column(table: Table, word: str | None, otherwise: int | None) -> int:
     raise SourceError(f"no column {word}; there are {', '.join(table.heads) or 'no heads'}")
 
 
-def _character(word: str) -> str:
-    """A delimiter, as an argument."""
-    if len(word) != 1 or word in "\r\n\"":
-        raise argparse.ArgumentTypeError("one character is needed")
-    return word
-
-
-def arguments() -> argparse.ArgumentParser:
-    """The arguments of the command."""
-    parser = argparse.ArgumentParser(
-        prog="summarystore-import", description="Stores the readings of a CSV, SQLite, RRD or Whisper file. "
-        "What isn't given is guessed and shown. After a kill, run it again: what is stored isn't sent again.")
-    add = parser.add_argument
-    add("store", metavar="STORE")
-    add("source", metavar="FILE", help="a file, or - for CSV on standard input")
-    add("--name", help="the stream, or what stands before the names of several")
-    add("--target", default=DEFAULT_TARGET, help=f"of new streams (default: {DEFAULT_TARGET})")
-    add("--within", type=int, metavar="E", help="of new streams: no window crosses a multiple of E")
-    add("--time", metavar="COLUMN", help="the column of times, by its head or number (default: the first)")
-    add("--value", metavar="COLUMN", action="append", help="a column of values (default: all with numbers)")
-    add("--stream", metavar="COLUMN", help="the column that names the stream of a row")
-    add("--scale", help="what one step of a value is worth (default: by the decimals of the first rows)")
-    add("--rounding", choices=list(ROUNDINGS), help="how values that don't fit the scale are rounded")
-    add("--unit", help="of the values")
-    add("--resolution", choices=list(NANOSECONDS), help="of the times that are stored")
-    add("--since", metavar="DAY", help="the day from which times count (default: 1970-01-01)")
-    add("--zone", help="of times without one, as Europe/Berlin")
-    add("--time-format", metavar="FORMAT", help="as of strptime, or 'ISO 8601'")
-    add("--time-unit", choices=list(NANOSECONDS), help="what times that are whole numbers count")
-    add("--delimiter", type=_character, help="of CSV: one character")
-    add("--decimal", choices=[".", ","], help="of CSV")
-    add("--query", metavar="SQL", help="of an SQLite file: time, value, and perhaps a name")
-    add("--function", default="AVERAGE", help="of an RRD file (default: AVERAGE)")
-    add("--start", help="of an RRD file")
-    add("--end", help="of an RRD file")
-    add("--lateness", help="sorts rows that are late by at most so much, as 15min")
-    add("--future", default="1h", metavar="SPAN",
-        help="refuses times that lie further ahead of the clock (default: 1h)")
-    add("--dry-run", action="store_true", help="shows what is guessed, and stores nothing")
-    add("--quiet", action="store_true", help="shows no progress")
-    add("--checked", action=argparse.BooleanOptionalAction,
-        help="whether a new store is checked (it is); with --checked one that stands has to be")
-    add("--program", help="the path of the program summarystore")
-    return parser
-
-
 def main(given: Sequence[str] | None = None) -> int:
     """Runs the command. 0 where all rows were stored, 1 where some were refused, 3 otherwise."""
-    words = arguments().parse_args(given)
+    parser = import_arguments.arguments()
+    words = parser.parse_args(given)
+    if words.fold and words.lateness:
+        parser.error("--fold goes by the order of the table, and --lateness says that there is none")
     try:
         table = tables.table_of(words.source, words.query, words.delimiter, words.decimal, words.function,
                                 words.start, words.end)

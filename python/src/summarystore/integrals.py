@@ -9,7 +9,7 @@ from __future__ import annotations
 
 from collections.abc import Sequence
 
-from . import calls, wire
+from . import calls, row_calls, wire
 from .calls import Call
 from .codec import Codec
 from .description import SPANS
@@ -39,9 +39,22 @@ def series(name: str, codec: Codec, kind: str, first: object, last_time: object,
            begun: int | None) -> Call[Series]:
     """The same in rows: from each step until the next."""
     if kind not in KINDS:
-        return calls.series(name, codec, kind, first, last_time, step)
+        return row_calls.series(name, codec, kind, first, last_time, step)
+    calendar = codec.calendar(step)
+    if calendar is not None:
+        return row_calls.calendar_rows(name, codec, calendar, first, last_time,
+                                       lambda edges: rows(name, codec, kind, edges, begun))
     inner = _rows(codec, kind, codec.begin(first), codec.end(last_time), codec.step(step), begun)
-    return Call(inner.lines, lambda replies: calls.series_of(name, codec, kind, inner.result(replies)))
+    return Call(inner.lines, lambda replies: row_calls.series_of(name, codec, kind, inner.result(replies)))
+
+
+def rows(name: str, codec: Codec, kind: str, edges: Sequence[int], begun: int | None) -> Call[Series]:
+    """The same from each of some counts until the next."""
+    if kind not in KINDS:
+        return row_calls.rows(name, codec, kind, edges)
+    inner = row_calls.each(edges, lambda begin, end: query(codec, kind, begin, end, begun))
+    return Call(inner.lines, lambda replies: row_calls.series_of(name, codec, kind,
+                                                                 list(zip(edges, inner.result(replies)))))
 
 
 def _rows(codec: Codec, kind: str, begin: int, end: int, each: int, begun: int | None) -> Call[Rows]:

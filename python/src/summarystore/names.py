@@ -17,6 +17,7 @@ import unicodedata
 from collections.abc import Sequence
 from decimal import Decimal
 
+from .calendars import Calendar, Counting, calendar_of
 from .clock import Clock, zone_of
 from .codec import Change, Codec, PlainCodec, each_of, streams_of
 from .decimals import EXACT, Number
@@ -38,9 +39,11 @@ SHORT = re.compile(r"(.*)\.([a-z2-7]{8})\.([1-9][0-9]*)e(-?[0-9]+)(ns|us|ms|s|m|
 class DescribedCodec:
     """Clock times and decimals of one stream."""
 
-    def __init__(self, short: str, description: Description, zone: datetime.tzinfo | None) -> None:
+    def __init__(self, short: str, description: Description, zone: datetime.tzinfo | None,
+                 told: set[str] | None = None) -> None:
         self.short = short
         self.description: Description | None = description
+        self.told: set[str] = set() if told is None else told
         clock = self.clock = Clock(description.time, description.since, zone)
         scale = self.scale = Scale(description.scale, description.rounding)
         self.time, self.begin, self.end = clock.time, clock.begin, clock.end
@@ -59,6 +62,20 @@ class DescribedCodec:
     def interval_back(self, kind: str, interval: Interval) -> Interval:
         """A count as it is, and what is made of values in their unit."""
         return interval if kind == "count" else self.scale.interval(interval)
+
+    def in_zone(self, zone: str | datetime.tzinfo) -> Codec:
+        """The same, with times of this zone."""
+        assert self.description is not None
+        return DescribedCodec(self.short, self.description, zone_of(zone), self.told)
+
+    def calendar(self, step: object) -> Calendar | None:
+        """The calendar that a step asks for, of the zone that times without one have."""
+        found = calendar_of(step, self.clock.zone)
+        return None if found is None else found.for_counts(self.counting().step)
+
+    def counting(self) -> Counting:
+        """How it counts."""
+        return Counting(*self.clock.counting())
 
 
 MOST_OF_A_NAME = 100

@@ -2,13 +2,14 @@
 
 from __future__ import annotations
 
+import datetime
 from collections.abc import Sequence
 from typing import TYPE_CHECKING, TypeVar
 
-from . import calls, integrals
+from . import calls, integrals, row_calls
 from .calls import Call
 from .certificate import Certificate
-from .codec import Codec, Translator
+from .codec import Codec, Translator, codec_of
 from .combining import Part
 from .errors import NoValueError
 from .gauges import must_be_gauge
@@ -80,11 +81,20 @@ class Questions:
         """Whether one of the values from t1 to t2 is this one."""
         return self._do(calls.has(self._translator.codec(name), value, t1, t2))
 
-    def series(self, name: str, kind: Kind, t1: object | None, t2: object | None, step: object
-               ) -> Series:
-        """The answers to `query` for each step from t1 to t2: at most 100,000 rows."""
-        codec = self._translator.codec(name)
+    def series(self, name: str, kind: Kind, t1: object | None, t2: object | None, step: object,
+               zone: str | datetime.tzinfo | None = None) -> Series:
+        """The answers to `query` for each step from t1 to t2: at most 100,000 rows.
+
+        With a zone, here or of the store, `1d`, `1w`, `1mon` and `1y` are its days, weeks, months and years,
+        from midnight to midnight: from the one that t1 is in to that of t2, each of them whole.
+        """
+        codec = codec_of(self._translator, name, zone)
         return self._do(integrals.series(name, codec, kind, t1, t2, step, self._begun(codec, kind)))
+
+    def rows(self, name: str, kind: Kind, edges: Sequence[int]) -> Series:
+        """The answers to `query` from each of some times until before the next, by whole numbers."""
+        codec = self._translator.codec(name)
+        return self._do(integrals.rows(name, codec, kind, edges, self._begun(codec, kind)))
 
     def estimate(self, name: str, kind: Estimated, t1: object | None = None, t2: object | None = None
                  ) -> Estimate:
@@ -94,7 +104,7 @@ class Questions:
     def estimates(self, name: str, kind: Estimated, t1: object | None, t2: object | None, step: object
                   ) -> Sequence[EstimateRow]:
         """The answers to `estimate` for each step from t1 to t2: at most 100,000 rows."""
-        return self._do(calls.estimates(self._translator.codec(name), kind, t1, t2, step))
+        return self._do(row_calls.estimates(name, self._translator.codec(name), kind, t1, t2, step))
 
     def figures(self, name: str, kinds: Sequence[str], t1: object | None = None,
                 t2: object | None = None, step: object | None = None) -> Sequence[Part]:

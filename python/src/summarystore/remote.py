@@ -7,13 +7,12 @@ to the intake of the service, which joins counters and knows what came twice.
 from __future__ import annotations
 
 import datetime
-from collections.abc import Callable, Mapping, Sequence
+from collections.abc import Callable, Iterator, Mapping, Sequence
 from dataclasses import dataclass
 from typing import Generic, TypeVar
 from urllib.parse import quote, urlsplit
 
 from . import errors
-from .calls import Call
 from .clock import zone_of
 from .codec import Change, Codec, PlainCodec
 from .description import Description
@@ -27,11 +26,15 @@ from .records import Stored, Window
 from .sending import OnRefused, Row, Sending
 from .server import exactjson
 from .server.meaning import Meaning
-from .wire import NAME, Reply
+from .wire import NAME, SESSIONS, Reply
 
 T = TypeVar("T")
 Body = Mapping[str, object]
 SECONDS = 30.0
+MOST_LINES = 5_000
+"""So many lines a service takes in one request."""
+LISTING = frozenset(("series", "estimates", "values", "windows", "list"))
+"""What has rows: of such lines a service takes as many in one request as there are sessions."""
 
 
 @dataclass(frozen=True)
@@ -104,13 +107,28 @@ def _nothing(told: Body) -> None:
     pass
 
 
-def question(call: Call[T]) -> Ask[T]:
-    """A question as the lines of the program."""
-    def result(told: Body) -> T:
+def questions(lines: Sequence[str]) -> Sequence[Ask[Sequence[Reply]]]:
+    """Questions as the lines of the program: in several requests where they are too many for one."""
+    def result(told: Body) -> Sequence[Reply]:
         replies = told["replies"]
         assert isinstance(replies, list)
-        return call.answer([Reply(reply["head"], reply["rows"]) for reply in replies])
-    return Ask("POST", "/api/lines", _json({"lines": call.lines}), result)
+        return [Reply(reply["head"], reply["rows"]) for reply in replies]
+    return [Ask("POST", "/api/lines", _json({"lines": part}), result) for part in _parts(lines)]
+
+
+def _parts(lines: Sequence[str]) -> Iterator[Sequence[str]]:
+    """Lines in as many as a service takes at once."""
+    part: list[str] = []
+    listing = 0
+    for line in lines:
+        lists = line.partition(" ")[0] in LISTING
+        if len(part) == MOST_LINES or lists and listing == SESSIONS:
+            yield part
+            part, listing = [], 0
+        part.append(line)
+        listing += lists
+    if part:
+        yield part
 
 
 def descriptions(names: RemoteNames) -> Ask[None]:
@@ -241,12 +259,16 @@ class RemoteNames:
         self._look = look
         self._described: Described = {}
         self._names: dict[str, str] = {}
+        self._codecs: dict[str, DescribedCodec] = {}
 
     def take(self, told: Body) -> None:
         """Takes what the service says."""
         streams, names = told["streams"], told["names"]
         assert isinstance(streams, dict) and isinstance(names, dict)
-        self._described = {name: entry_of(entry) for name, entry in streams.items()}
+        described = {name: entry_of(entry) for name, entry in streams.items()}
+        self._codecs = {name: codec for name, codec in self._codecs.items()
+                        if described.get(name) == self._described[name]}
+        self._described = described
         self._names = {short: name for name, short in names.items()}
 
     def codec(self, name: str) -> Codec:
@@ -254,8 +276,10 @@ class RemoteNames:
         if name not in self._described and name not in self._names and self._look is not None:
             self._look()
         if name in self._described:
-            short, description = self._described[name]
-            return DescribedCodec(short, description, self._zone)
+            codec = self._codecs.get(name)
+            if codec is None:
+                codec = self._codecs[name] = DescribedCodec(*self._described[name], self._zone)
+            return codec
         if not isinstance(name, str):
             raise StreamNameError("NAME", repr(name), "a name is text")
         if not NAME.fullmatch(name):

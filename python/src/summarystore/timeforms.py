@@ -6,6 +6,7 @@ import datetime
 import re
 from collections.abc import Callable, Sequence
 from dataclasses import dataclass
+from itertools import pairwise
 
 from .clock import COUNT, DAY, is_compact, moment_of, nanoseconds
 from .codec import Codec
@@ -22,6 +23,10 @@ FRACTION = re.compile(r":[0-9]{2}[.,]([0-9]+)")
 DIGITS = ((8, 11, "s"), (12, 14, "ms"), (15, 17, "us"), (18, 20, "ns"))
 
 
+Reading = Callable[[str, str, datetime.tzinfo | None], int]
+"""What gives the nanoseconds since 1970 of a text of a form, in a zone."""
+
+
 @dataclass(frozen=True)
 class TimeForm:
     """How times are written, and which resolution and first day that asks for."""
@@ -35,25 +40,25 @@ class TimeForm:
         zone = f" in {self.zone}" if self.zone is not None and self.form != WHOLE else ""
         return f"{self.form}{f' of {self.resolution}' if self.form == WHOLE else zone}"
 
-    def reader(self, codec: Codec) -> Callable[[str], int]:
-        """What gives the count of a text, for a stream."""
+    def reader(self, codec: Codec, read: Reading | None = None) -> Callable[[str], int]:
+        """What gives the count of a text, for a stream. `read` reads a time, where it isn't read alone."""
         if self.form == WHOLE:
             return self._whole(codec)
         if not isinstance(codec, DescribedCodec):
             raise TimeError(f"{codec.short} takes whole numbers as times, and the table has {self.form}")
-        time, at, form, zone = codec.time, codec.clock.of, self.form, self.zone
+        time, at, form, zone, told = codec.time, codec.clock.of, self.form, self.zone, read or moment_in
         days = codec.description is not None and codec.description.time == "day"
 
         def moment(text: str) -> int:
             if days and len(text) <= 10:
                 return time(_date(text, form))
-            return at(moment_in(text, form, zone), text)
+            return at(told(text, form, zone), text)
         return moment
 
-    def column(self, codec: Codec) -> Callable[[Sequence[str]], Sequence[int]]:
+    def column(self, codec: Codec, read: Reading | None = None) -> Callable[[Sequence[str]], Sequence[int]]:
         """What gives the counts of many texts, for a stream. Whole numbers that are kept as they are
         are read at once."""
-        one = self.reader(codec)
+        one = self.reader(codec, read)
 
         def counts(texts: Sequence[str]) -> Sequence[int]:
             if COUNT.fullmatch("".join(texts)) and all(texts):
@@ -61,6 +66,25 @@ class TimeForm:
             return list(map(one, texts))
         kept = self.form == WHOLE and self._is_kept(codec)
         return counts if kept else lambda texts: list(map(one, texts))
+
+    def is_by_minutes(self, texts: Sequence[str]) -> bool:
+        """Whether times are whole minutes, and most of them come 60 s after the one before."""
+        minute = NANOSECONDS["minute"]
+        if NANOSECONDS[self.resolution] >= minute:
+            return False
+        moments = sorted({moment for moment in map(self.moment, texts) if moment is not None})
+        apart = [after - moment for moment, after in pairwise(moments)]
+        return len(apart) > 1 and not any(moment % minute for moment in moments) \
+            and 2 * apart.count(minute) >= len(apart)
+
+    def moment(self, text: str) -> int | None:
+        """Nanoseconds since 1970. None of what is no time, and of an hour that comes twice."""
+        if self.form == WHOLE:
+            return int(text) * NANOSECONDS[self.resolution] if COUNT.fullmatch(text) else None
+        try:
+            return moment_in(text, self.form, self.zone)
+        except TimeError:
+            return None
 
     def _is_kept(self, codec: Codec) -> bool:
         """Whether a stream counts as the table does."""

@@ -285,3 +285,19 @@ class GatewayRun(Running):
     def __init__(self, log: Path, process: subprocess.Popen[bytes]) -> None:
         self._log = log
         self.process = process
+
+
+def test_days_of_a_zone_over_shards(folder: Path, program: str) -> None:
+    """The same days are asked of all shards, and of one stream the zone is handed on."""
+    async def work() -> None:
+        async with fleet(folder, READINGS, QUICK) as (client, _):
+            words = {"kind": "sum", "from": "2025-11-28", "to": "2025-11-29", "step": "1d",
+                     "zone": "Europe/Berlin"}
+            whole = await client.get("/api/series", streams="kitchen/*", **words)
+            assert [(row["time"], row["until"]) for row in whole["rows"]] == [
+                (1764284400, 1764370800), (1764370800, 1764457200)]
+            assert whole["zone"] == "Europe/Berlin" and whole["step"] == "1d" and whole["partial"] is False
+            assert holds("sum", whole["rows"][1], of_range(READINGS, "*", 0, 2 * T))
+            one = await client.get("/api/series", stream=NAMES[0], **words)
+            assert [row["time"] for row in one["rows"]] == [1764284400, 1764370800]
+    run(work())

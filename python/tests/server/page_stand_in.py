@@ -10,13 +10,16 @@ import asyncio
 import json
 import math
 import threading
-from collections.abc import Awaitable, Callable, Mapping
+from collections.abc import Awaitable, Callable, Mapping, Sequence
 from dataclasses import dataclass, field
 from decimal import ROUND_CEILING, ROUND_FLOOR, Decimal
+from itertools import pairwise
 from types import TracebackType
+from zoneinfo import ZoneInfo
 
 from aiohttp import web
 
+from summarystore.calendars import Calendar, unit_of
 from summarystore.server import page
 from summarystore.server.endpoints import ApiError
 
@@ -54,6 +57,10 @@ class Stream:
     added: list[tuple[float, Decimal]] = field(default_factory=list)
     silent: float = 0
     """So many seconds ago the readings ended."""
+    within: int | None = None
+    """The step of the stream, in seconds."""
+    shows: str | None = None
+    words: Mapping[str, str] = field(default_factory=dict)
 
     def value(self, time_: float) -> Decimal:
         return level(time_, self.base, self.swing)
@@ -81,6 +88,8 @@ class Stream:
 
     def described(self) -> Json:
         return {"name": self.name, "unit": self.unit, "labels": dict(self.labels), "target": "power 1 1 4 1",
+                "within": self.within, "within_seconds": self.within, "shows": self.shows,
+                "words": dict(self.words),
                 "values": int(self.days * DAY / APART) + len(self.added), "windows": 1207,
                 "landmarks": len(self.landmarks), "open_landmark": self.is_open,
                 "last": self.last, "newest": self.newest()}
@@ -160,6 +169,16 @@ async def next_of(held: asyncio.Queue[bytes | None]) -> bytes | None:
         return b": alive\n\n"
 
 
+def edges_of(start: float, end: float, step: str, zone: str | None) -> Sequence[float]:
+    """Where rows begin, and where the last of them ends."""
+    unit = unit_of(step)
+    if zone is None or unit is None:
+        return [start + at * float(step) for at in range(math.floor((end - start) / float(step)) + 2)]
+    found = Calendar(unit, ZoneInfo(zone)).edges(int(start * 10**9), int(end * 10**9), 2001)
+    assert found is not None
+    return [edge / 10**9 for edge in found]
+
+
 class StandIn:
     """The service in a thread of its own: `with StandIn(many()) as service: service.address`."""
 
@@ -172,6 +191,7 @@ class StandIn:
                              "mapping": {"entries": 2}, "unmatched": {"readings": 0}}
         self.failing: web.Response | None = None
         self.admin = False
+        self.unknown_zone: str | None = None
         self.slow = 0.0
         self.port = free_port()
         self._has_chart = has_chart
@@ -285,18 +305,19 @@ class StandIn:
 
     async def _series(self, request: web.Request) -> web.StreamResponse:
         stream, kind, start, end = self._asked_for(request)
-        step = float(request.query["step"])
-        count = math.floor((end - start) / step) + 1
-        if count > 2000:
-            return refusal(400, "too_many_rows", f"{count} rows are more than 2000")
+        word, zone = request.query["step"], request.query.get("zone")
+        if zone is not None and zone == self.unknown_zone:
+            return refusal(400, "bad_time", f"`zone`: no such zone: {zone}")
+        edges = edges_of(start, end, word, zone)
+        if len(edges) > 2001:
+            return refusal(400, "too_many_rows", f"{len(edges) - 1} rows are more than 2000")
         rows: list[Json] = []
-        for at in range(count):
-            begin = start + at * step
-            answer = stream.answer(kind, begin, min(end, begin + step - 0.001))
+        for begin, until in pairwise(edges):
+            answer = stream.answer(kind, begin, min(end, until - 0.001) if zone is None else until - 0.001)
             del answer["maybe_none"]
-            rows.append({"time": begin, **answer})
+            rows.append({"time": begin, **({} if zone is None else {"until": until}), **answer})
         return reply({"stream": stream.name, "kind": kind, "unit": stream.unit, "from": start, "to": end,
-                      "step": step, "rows": rows})
+                      "step": word if zone else float(word), "rows": rows})
 
     async def _windows(self, request: web.Request) -> web.StreamResponse:
         stream = self.streams[request.query["stream"]]

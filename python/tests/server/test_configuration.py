@@ -114,6 +114,7 @@ def test_nothing_is_enough() -> None:
     ("[[mapping]]\nmatch='a'\nstream='{}'", "[[mapping]] 1 stream", "a place is"),
     ("[[mapping]]\nmatch='a'\nstream='{a'", "[[mapping]] 1 stream", "a brace"),
     ("[[mapping]]\nmatch='a'\ntarget='exp 2 1'", "[[mapping]] 1 target", "`exp B R S`"),
+    ("[[mapping]]\nmatch='a'\nshows='pie'", "[[mapping]] 1 shows", "one of sum, increase, mean, state"),
     ("[[mapping]]\nmatch='a'\nscale=0", "[[mapping]] 1 scale", "more than 0"),
     ("[[mapping]]\nmatch='a'\nscale='x'", "[[mapping]] 1 scale", "not a number"),
     ("[[mapping]]\nmatch='a'\nscale=nan", "[[mapping]] 1 scale", "not a number"),

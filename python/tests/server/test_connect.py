@@ -163,3 +163,18 @@ def test_with_asyncio(service: Running) -> None:
             with pytest.raises(errors.ServiceError):
                 await aio.connect("http://127.0.0.1:1", seconds=5)
     run(work())
+
+
+def test_days_of_a_zone(service: Running) -> None:
+    """Also where they are more questions than a service takes at once, and what doesn't fit is told once."""
+    with connected(service) as store:
+        store.create("days", "exp 2 1 1", 86400, scale=1)
+        store.append_many("days", [(f"2026-03-{day}T12:00+01:00", day) for day in range(27, 32)])
+        with pytest.warns(errors.StepWarning, match="`within 3600` would") as told:
+            rows = store.series("days", "sum", "2026-03-27", "2026-03-31", "1d", "Europe/Berlin")
+            store.series("days", "sum", "2026-03-27", "2026-03-31", "1d", "Europe/Berlin")
+        assert len(told) == 1 and [row.interval.mid for row in rows] == [27, 28, 29, 30, 31]
+        assert [str(row.start)[11:] for row in rows] == ["00:00:00+01:00"] * 3 + ["00:00:00+02:00"] * 2
+        assert len(store.series("days", "mean", "2022-01-01", "2026-12-31", "1d", "Europe/Berlin")) == 1826
+        weeks = store["days"].series("sum", "2026-03-27", "2026-03-31", "1w", "Europe/Berlin")
+        assert [str(row.start)[:10] for row in weeks] == ["2026-03-23", "2026-03-30"]

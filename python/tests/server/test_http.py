@@ -371,3 +371,73 @@ def test_too_many_listen(path: Path) -> None:
                 assert (await client.get("/api/events", 503))["error"] == "busy"
                 assert client.headers["Retry-After"]
     run(work())
+
+
+def test_days_of_a_zone(path: Path) -> None:
+    async def work() -> None:
+        async with over_http(PLAIN + "within = 86400\n", path) as client:
+            begin = 1_774_566_000     # 2026-03-27 in Berlin, where summer begins on the 29th
+            body = "".join(f"weather t={at} {begin + at * 3600}\n" for at in range(5 * 24 - 1))
+            await client.post("/write?precision=s", body, 204)
+            words = {"stream": "weather/t", "kind": "count", "step": "1d", "zone": "Europe/Berlin",
+                     "from": "2026-03-27", "to": "2026-03-31"}
+            found = await client.get("/api/series", **words)
+            assert [(row["until"] - row["time"]) // 3600 for row in found["rows"]] == [24, 24, 23, 24, 24]
+            assert found["rows"][0]["time"] == begin and found["step"] == "1d"
+            assert found["zone"] == "Europe/Berlin" and "`within 3600` would" in found["notice"]
+            assert [row["mid"] for row in found["rows"]] == [24, 24, 23, 24, 24]
+            several = {key: word for key, word in words.items() if key != "stream"}
+            both = await client.get("/api/series", streams="weather/*", **several)
+            assert [(row["time"], row["until"], row["lo"], row["hi"]) for row in both["rows"]] == [
+                (row["time"], row["until"], row["lo"], row["hi"]) for row in found["rows"]]
+            month = await client.get("/api/series", **{**words, "step": "1mon"})
+            assert [row["mid"] for row in month["rows"]] == [5 * 24 - 1]
+            fixed = (await client.get("/api/series", **{**words, "step": "24h"}))["rows"]
+            assert {after["time"] - row["time"] for row, after in zip(fixed, fixed[1:])} == {86400}
+            utc = await client.get("/api/series", **{**words, "zone": "UTC"})
+            assert utc["notice"] is None and all(row["exact"] for row in utc["rows"])
+            table = await client.text("GET", "/api/series", params=words, headers={"Accept": "text/csv"})
+            assert table.splitlines()[0] == "time,until,lo,hi,mid,exact,none,maybe_none"
+            for wrong in ({"zone": "Europe/Nowhere"}, {"zone": "Europe"}, {"zone": "../etc/passwd"},
+                          {"zone": ""}):
+                refused = await client.get("/api/series", 400, **{**words, **wrong})
+                assert refused["error"] == "bad_time" and "zone" in refused["reason"]
+            del words["zone"]
+            assert "give `zone`" in (await client.get("/api/series", 400, **{
+                **words, "from": str(begin), "to": "now", "step": "1mon"}))["reason"]
+            assert (await client.get("/api/series", 400, **{
+                **words, "from": "1900-01-01", "zone": "UTC"}))["error"] == "too_many_rows"
+    run(work())
+
+
+SHOWN = """
+[[mapping]]
+match = "home/*/door"
+stream = "doors/{1}"
+shows = "state"
+words = { open = 1, ON = 1, shut = 0, unknown = "ignore" }
+[[mapping]]
+match = "weather/rain"
+scale = 0.1
+shows = "sum"
+[[mapping]]
+match = "**"
+"""
+
+
+def test_what_the_page_shows(path: Path) -> None:
+    """It is said by the mapping of a stream, which is found by the stream's name, also after a new start."""
+    async def work() -> None:
+        async with over_http(SHOWN, path) as client:
+            await client.post("/api/append", {"readings": [
+                {"stream": "home/hall/door", "time": T, "value": 1},
+                {"stream": "any/other", "time": T, "value": 2}]})
+            await client.post("/write?precision=s", f"weather,place=garden rain=2.5 {T}\n", 204)
+        async with over_http(SHOWN, path) as client:
+            found = {stream["name"]: (stream["shows"], stream["words"])
+                     for stream in (await client.get("/api/streams"))["streams"]}
+            assert found == {"doors/hall": ("state", {"1": "open", "0": "shut"}), "any/other": (None, {}),
+                             "weather,place=garden/rain": ("sum", {})}
+            table = await client.text("GET", "/api/streams", headers={"Accept": "text/csv"})
+            assert "words" in table.splitlines()[0]
+    run(work())

@@ -43,7 +43,7 @@ def test_it_draws_the_band_and_what_is_exact(browser: Browser, service: StandIn,
 
 def test_the_band_is_where_the_answers_say(browser: Browser, service: StandIn) -> None:
     """The colour of each row, looked at in the canvas: the band from lo to hi, and none of it outside."""
-    browser.look(f"{service.address}{AT_KITCHEN}&kind=max")
+    browser.look(f"{service.address}{AT_KITCHEN}&kind=max&range=year")
     found: dict[str, int] = browser.run("""
       const chart = Chart.getChart("canvas");
       const { x, y } = chart.scales;
@@ -110,7 +110,7 @@ def test_the_kind_can_be_chosen(browser: Browser, service: StandIn) -> None:
 
 @pytest.mark.parametrize("name,span,caption", [
     ("hour", 3600, "15 seconds"), ("day", DAY, "5 minutes"), ("week", 7 * DAY, "hour"),
-    ("month", 30 * DAY, "3 hours"), ("year", 365 * DAY, "2 days"), ("all", 400 * DAY * 1.02, "2 days")])
+    ("month", 30 * DAY, "3 hours"), ("year", 365 * DAY, "day"), ("all", 400 * DAY * 1.02, "week")])
 def test_ranges_end_at_the_newest(browser: Browser, service: StandIn, name: str, span: float,
                                   caption: str) -> None:
     browser.look(service.address + AT_KITCHEN)

@@ -24,7 +24,8 @@ TAB, ENTER, ESCAPE, DOWN, LEFT, RIGHT, HOME, END, PAGE_UP = (
 
 def lengths(service: StandIn) -> list[float]:
     """The lengths of the rows that the chart asked for, in order."""
-    return [float(query["step"]) for path, query in service.asked
+    named = {"1d": DAY, "1w": 7 * DAY, "1mon": 30.4375 * DAY, "1y": 365.25 * DAY}
+    return [named.get(query["step"]) or float(query["step"]) for path, query in service.asked
             if path == "/api/series" and query["stream"] == KITCHEN and query["kind"] == "max"]
 
 

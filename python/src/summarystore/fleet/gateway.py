@@ -13,7 +13,6 @@ import aiohttp
 from aiohttp import web
 
 from .. import combining
-from ..decimals import Number
 from ..server import asked
 from ..server.answers import JSON, json_answer, table_answer
 from ..server.counters import Counters
@@ -30,7 +29,7 @@ from .layout import Layout, Shard
 from .shards import (AS_OF, COPIED, PIECE, NoAnswerError, Shards, Words, as_of_of, object_of, whole_of)
 
 log = logging.getLogger("summarystored")
-PASSED = ("stream", "kind", "value", "from", "to", "step", "rows", "limit")
+PASSED = ("stream", "kind", "value", "from", "to", "step", "rows", "zone", "limit")
 """The words of a question about one stream."""
 
 
@@ -42,8 +41,8 @@ def _behind(shard: Shard, as_of: Decimal, body: Mapping[str, object]) -> web.Res
     return answer
 
 
-def _text(value: Number) -> str:
-    return f"{value:f}" if not isinstance(value, int) else str(value)
+def _text(value: object) -> str:
+    return f"{value:f}" if isinstance(value, Decimal) else str(value)
 
 
 class Gateway:
@@ -163,7 +162,7 @@ class Gateway:
         pattern, kind = pattern_of(words, "streams"), kind_of(words)
         rows = rows_of(words, self.configuration.limits.rows)
         question = [("streams", pattern), ("kind", kind), *_ends(rows.first, rows.last),
-                    ("step", _text(seconds_of(rows.step)))]
+                    *((key, _text(rows.told[key])) for key in ("step", "zone") if key in rows.told)]
         gathered = await self._gathered("/api/series", question)
         columns = gathering.rows_of(kind, rows.count, gathered)
         await self._must_be_whole(pattern, gathered)
@@ -171,12 +170,11 @@ class Gateway:
         parts = [combining.joined(kinds, row) for row in zip(*columns)]
         parts = parts or [combining.empty(kinds)] * rows.count
         shown: list[dict[str, object]] = [
-            {"time": seconds_of(rows.span(row)[0]), **gathering.ends(kind, part, gathered.partial)}
+            {**rows.told_of(row), **gathering.ends(kind, part, gathered.partial)}
             for row, part in enumerate(parts)]
         told: dict[str, object] = {
-            "streams": pattern, "kind": kind, "unit": gathered.unit(), "from": seconds_of(rows.first),
-            "to": seconds_of(rows.last), "matched": gathered.matched(), "step": seconds_of(rows.step),
-            **gathered.told(), "rows": shown}
+            "streams": pattern, "kind": kind, "unit": gathered.unit(), **rows.told,
+            "matched": gathered.matched(), **gathered.told(), "rows": shown}
         return _table(request, gathered, told, shown)
 
     async def streams(self, request: web.Request) -> web.StreamResponse:

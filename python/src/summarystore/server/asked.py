@@ -2,12 +2,14 @@
 
 from __future__ import annotations
 
+import datetime
 import difflib
 import re
 from collections.abc import Mapping, Sequence
 from decimal import Decimal, InvalidOperation
 
-from ..clock import OPEN, from_now, moment_of, span_of
+from ..calendars import Calendar, unit_of
+from ..clock import OPEN, from_now, moment_of, span_of, zone_of
 from ..errors import TimeError
 from .endpoints import ApiError
 
@@ -40,8 +42,8 @@ def no_kind(given: str, kinds: Sequence[str]) -> ApiError:
     return bad(f"`kind` is one of {', '.join(kinds)}, and not {given[:20]!r}{meant}")
 
 
-def nanoseconds(given: object, key: str) -> int:
-    """A time: seconds since 1970, ISO 8601 with a zone, `now`, or `now-1h`."""
+def nanoseconds(given: object, key: str, zone: datetime.tzinfo | None = None) -> int:
+    """A time: seconds since 1970, ISO 8601 with a zone or in that one, `now`, or `now-1h`."""
     if isinstance(given, (int, Decimal)) and not isinstance(given, bool):
         return _of_seconds(str(given) if isinstance(given, int) else _plain(given, key), key)
     if not isinstance(given, str):
@@ -54,7 +56,7 @@ def nanoseconds(given: object, key: str) -> int:
         if found is not None:
             return found
         lost = LOST_PLUS.fullmatch(text)
-        return moment_of(f"{lost[1]}+{lost[2]}" if lost else text[:LONGEST], None)
+        return moment_of(f"{lost[1]}+{lost[2]}" if lost else text[:LONGEST], zone)
     except (TimeError, OverflowError) as error:
         why = str(error).replace(f", or {OPEN}", "")
         raise bad(f"`{key}`: {why}; seconds since 1970, ISO 8601 with a zone, `now` and `now-1h` are times",
@@ -86,6 +88,29 @@ def span(given: str, key: str) -> int:
     if found <= 0:
         raise bad(f"`{key}`: a span of time is more than 0", "bad_time")
     return found
+
+
+def zone(words: Mapping[str, str]) -> datetime.tzinfo | None:
+    """The zone of times that have none, and of days, where one is given."""
+    given = words.get("zone")
+    try:
+        return None if given is None else zone_of(given[:LONGEST])
+    except TimeError as error:
+        raise bad(f"`zone`: {error}; write it as Europe/Berlin", "bad_time") from None
+
+
+def calendar(words: Mapping[str, str]) -> Calendar | None:
+    """The calendar whose days, weeks, months or years a step asks for. None of a span of time."""
+    found, unit = zone(words), unit_of(words.get("step"))
+    if found is None and unit in ("month", "year"):
+        raise bad(f"`step`: a {unit} is one of a zone: give `zone`, as Europe/Berlin", "bad_time")
+    return None if found is None or unit is None else Calendar(unit, found)
+
+
+def too_many_rows(count: int | None, most: int) -> ApiError:
+    """More rows than are answered."""
+    return ApiError(400, "too_many_rows", f"there would be {count or f'more than {most}'} rows, and at most "
+                                          f"{most} are answered: take a greater step")
 
 
 def whole(words: Mapping[str, str], key: str, most: int) -> int | None:

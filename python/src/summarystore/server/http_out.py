@@ -5,12 +5,14 @@ from __future__ import annotations
 import asyncio
 import tempfile
 from collections.abc import AsyncIterator, Mapping, Sequence
+from typing import TypedDict
 
 from aiohttp import web
 
+from ..calendars import Calendar, Counting
 from ..description import unit_of
 from ..interval import Presence
-from ..kinds import KINDS, one_of
+from ..kinds import KINDS, Kind, one_of
 from ..records import Stream, Window
 from . import asked, exactjson, many
 from .answers import CSV, JSON, csv_line, ends_of, table_answer, wants_csv
@@ -19,6 +21,7 @@ from .endpoints import Access, ApiError, Endpoint
 from .globs import LONGEST, matches
 from .many import ROWS
 from .meaning import Meaning
+from .settings import IGNORE
 
 TOGETHER = 200
 """So many streams are asked for their newest value together."""
@@ -29,6 +32,15 @@ IN_MEMORY = 1 << 20
 """Of an answer so many bytes are held in memory, and what is longer in a file."""
 CHUNK = 1 << 16
 WINDOW = ("first", "last", "count", "sum", "min", "max", "from", "to")
+
+
+class CalendarRows(TypedDict):
+    """Rows of a calendar as they are answered."""
+
+    step: str
+    zone: str
+    notice: str | None
+    rows: Sequence[Mapping[str, object]]
 
 
 class HttpOut:
@@ -50,7 +62,8 @@ class HttpOut:
         for at in range(0, len(chosen), TOGETHER):
             rows += await asyncio.gather(*map(self._stream, chosen[at:at + TOGETHER]))
         if wants_csv(request):
-            rows = [{**row, "labels": exactjson.dumps(row["labels"]), "newest": _flat(row["newest"])}
+            rows = [{**row, "labels": exactjson.dumps(row["labels"]), "words": exactjson.dumps(row["words"]),
+                     "newest": _flat(row["newest"])}
                     for row in rows]
         return table_answer(request, {"streams": rows}, rows)
 
@@ -64,10 +77,21 @@ class HttpOut:
         return {"name": stream.name, "unit": told.unit if told else None,
                 "kind": told.meter.kind if told and told.meter else None,
                 "integrate": told.meter.integrate if told and told.meter else None,
-                "labels": dict(told.labels) if told else {}, "target": stream.target, "within": stream.within,
+                **self._shown(stream.name), "labels": dict(told.labels) if told else {},
+                "target": stream.target, "within": stream.within,
+                "within_seconds": None if stream.within is None else meaning.length(stream.within),
                 "values": stream.values, "windows": stream.windows, "landmarks": stream.landmarks,
                 "open_landmark": self._service.landmarks.is_open(stream),
                 "last": None if last is None else meaning.shown_time(last.time), "newest": newest}
+
+    def _shown(self, name: str) -> Mapping[str, object]:
+        """What the page draws of a stream, and the words of its numbers, as its mapping has them."""
+        mapping = self._service.intake.mappings.of_stream(name)
+        words: dict[str, str] = {}
+        for word, number in mapping.words.items() if mapping else ():
+            words.setdefault(number, word)
+        words.pop(IGNORE, None)
+        return {"shows": mapping.shows if mapping else None, "words": words}
 
     def _meaning(self, name: str) -> Meaning:
         return self._service.intake.streams.meaning(self._service.store(), name)
@@ -111,13 +135,37 @@ class HttpOut:
                                    "from": _seconds(meaning, first), "to": _seconds(meaning, last)}
         if first is None or last is None:
             return table_answer(request, {**told, "step": None, "rows": []}, [])
+        calendar = asked.calendar(words)
+        if calendar is not None:
+            found = await self._calendar_rows(name, one_of(kind, KINDS), calendar, meaning, (first, last))
+            return table_answer(request, {**told, **found}, found["rows"])
         step = self._step(words, meaning, last - first + 1)
-        found = await self._service.ask(
+        answers = await self._service.ask(
             lambda store: store.series(name, one_of(kind, KINDS), first, last, step))
         rows: list[dict[str, object]] = [{"time": meaning.shown_time(row.start), **ends_of(row.interval)}
-                                         for row in found]
+                                         for row in answers]
         told.update(step=meaning.length(step), rows=rows)
         return table_answer(request, told, rows)
+
+    async def _calendar_rows(self, name: str, kind: Kind, calendar: Calendar, meaning: Meaning,
+                             span: tuple[int, int]) -> CalendarRows:
+        """Whole days, weeks, months or years of a zone: each row says where it begins and where the next
+        does. Where the step of the stream doesn't fit them, `notice` says so."""
+        most = self._service.configuration.limits.rows
+        counting = Counting(meaning.origin, meaning.step)
+        calendar = calendar.for_counts(meaning.step)
+        moments = calendar.edges(counting.moment(span[0]), counting.moment(span[1]), most)
+        if moments is None:
+            raise asked.too_many_rows(None, most)
+        edges = counting.edges(moments)
+        found = await self._service.ask(lambda store: store.rows(name, kind, edges))
+        rows: list[dict[str, object]] = [
+            {"time": meaning.seconds(edge), "until": meaning.seconds(after), **ends_of(row.interval)}
+            for edge, after, row in zip(edges, edges[1:], found)]
+        streams = await self._service.ask(lambda store: store.list())
+        within = next((stream.within for stream in streams if stream.name == name), None)
+        return CalendarRows(step=calendar.step, zone=str(calendar.zone), rows=rows,
+                            notice=counting.misfit(within, calendar, moments))
 
     def _step(self, words: Mapping[str, str], meaning: Meaning, counts: int) -> int:
         """How many counts each row has."""
@@ -129,8 +177,7 @@ class HttpOut:
         else:
             step = max(1, -(-counts // (asked.whole(words, "rows", most) or min(ROWS, most))))
         if -(-counts // step) > most:
-            raise ApiError(400, "too_many_rows", f"there would be {-(-counts // step)} rows, and at most "
-                                                 f"{most} are answered: take a greater step")
+            raise asked.too_many_rows(-(-counts // step), most)
         return step
 
     async def _span(self, name: str, meaning: Meaning, first: int | None, last: int | None
@@ -222,8 +269,9 @@ def _flat(newest: object) -> object:
 
 def _range(words: Mapping[str, str], meaning: Meaning) -> tuple[int | None, int | None]:
     """The counts from `from` to `to`, each None where it isn't given."""
-    first = meaning.first(asked.nanoseconds(words["from"], "from")) if "from" in words else None
-    last = meaning.last(asked.nanoseconds(words["to"], "to")) if "to" in words else None
+    zone = asked.zone(words)
+    first = meaning.first(asked.nanoseconds(words["from"], "from", zone)) if "from" in words else None
+    last = meaning.last(asked.nanoseconds(words["to"], "to", zone)) if "to" in words else None
     if last is not None and last < (first or 0):
         raise asked.bad("the range ends before it begins, or before the first time there can be", "bad_range")
     return first, last

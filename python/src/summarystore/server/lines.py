@@ -11,6 +11,7 @@ from collections.abc import Sequence
 from aiohttp import web
 
 from ..namesfile import FORMAT, shown
+from ..remote import LISTING, MOST_LINES
 from ..wire import LONGEST_LINE, SESSIONS, Reply
 from . import asked, exactjson
 from .answers import json_answer
@@ -19,8 +20,6 @@ from .bodies import body_of
 from .endpoints import Access, ApiError, Endpoint
 
 ONE = frozenset(("query", "estimate", "certify", "last"))
-ROWS = frozenset(("series", "estimates", "values", "windows", "list"))
-MOST_LINES = 5_000
 MOST_WINDOWS = 100_000
 
 
@@ -36,9 +35,9 @@ def lines_of(body: bytes) -> Sequence[str]:
     for line in lines:
         if not isinstance(line, str) or len(line) > LONGEST_LINE or not line.isprintable():
             raise asked.bad("a question is one line of the program")
-        if line.partition(" ")[0] not in ONE | ROWS:
+        if line.partition(" ")[0] not in ONE | LISTING:
             raise asked.bad(f"not a question: {line[:40]!r}")
-    if sum(line.partition(" ")[0] in ROWS for line in lines) > SESSIONS:
+    if sum(line.partition(" ")[0] in LISTING for line in lines) > SESSIONS:
         raise asked.bad(f"at most {SESSIONS} questions together have rows")
     return lines
 

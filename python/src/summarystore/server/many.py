@@ -15,6 +15,7 @@ from aiohttp import web
 from multidict import MultiMapping
 
 from .. import combining
+from ..calendars import Calendar, Counting
 from ..combining import Part
 from ..description import unit_of
 from ..gauges import BESIDE
@@ -45,19 +46,36 @@ def digest_of(names: Iterable[str]) -> str:
 
 @dataclass(frozen=True)
 class Rows:
-    """Spans of time from `first` to `last`, in nanoseconds, each of `step` but the last."""
+    """Spans of time from `first` to `last`, in nanoseconds, each of `step` but the last. Those of a calendar
+    go from edge to edge."""
 
     first: int
     last: int
     step: int
+    calendar: Calendar | None = None
+    edges: Sequence[int] = ()
 
     @property
     def count(self) -> int:
         """How many there are."""
-        return -(-(self.last - self.first + 1) // self.step)
+        return len(self.edges) - 1 if self.edges else -(-(self.last - self.first + 1) // self.step)
+
+    @property
+    def told(self) -> Mapping[str, object]:
+        """What is told of them, in seconds."""
+        step = self.calendar.step if self.calendar else seconds_of(self.step)
+        zone = {"zone": str(self.calendar.zone)} if self.calendar else {}
+        return {"from": seconds_of(self.first), "to": seconds_of(self.last), "step": step, **zone}
+
+    def told_of(self, row: int) -> dict[str, object]:
+        """Where a row begins, in seconds, and of a calendar where the next one does."""
+        until = {"until": seconds_of(self.edges[row + 1])} if self.edges else {}
+        return {"time": seconds_of(self.span(row)[0]), **until}
 
     def span(self, row: int) -> tuple[int, int]:
         """The first and the last time of a row."""
+        if self.edges:
+            return self.edges[row], self.edges[row + 1] - 1
         begin = self.first + row * self.step
         return begin, min(self.last, begin + self.step - 1)
 
@@ -80,8 +98,9 @@ def kind_of(words: Mapping[str, str]) -> str:
 
 def range_of(words: Mapping[str, str]) -> tuple[int | None, int | None]:
     """The nanoseconds from `from` to `to`, each None where it isn't given."""
-    first = asked.nanoseconds(words["from"], "from") if "from" in words else None
-    last = asked.nanoseconds(words["to"], "to") if "to" in words else None
+    zone = asked.zone(words)
+    first = asked.nanoseconds(words["from"], "from", zone) if "from" in words else None
+    last = asked.nanoseconds(words["to"], "to", zone) if "to" in words else None
     if first is not None and last is not None and last < first:
         raise asked.bad("the range ends before it begins", "bad_range")
     return first, last
@@ -95,13 +114,18 @@ def rows_of(words: Mapping[str, str], most: int) -> Rows:
     assert first is not None and last is not None
     if "step" in words and "rows" in words:
         raise asked.bad("`step` and `rows` don't go together")
+    calendar = asked.calendar(words)
+    if calendar is not None:
+        edges = calendar.edges(first, last, most)
+        if edges is None:
+            raise asked.too_many_rows(None, most)
+        return Rows(first, last, 0, calendar, edges)
     length = last - first + 1
     step = asked.span(words["step"], "step") if "step" in words else \
         -(-length // (asked.whole(words, "rows", most) or min(ROWS, most)))
     rows = Rows(first, last, step)
     if rows.count > most:
-        raise ApiError(400, "too_many_rows", f"there would be {rows.count} rows, and at most {most} are "
-                                             "answered: take a greater step")
+        raise asked.too_many_rows(rows.count, most)
     return rows
 
 
@@ -193,12 +217,11 @@ class Many:
                                                  "take a greater step, or a narrower pattern")
         parts = await self._part_rows(names, kinds, rows)
         shown: list[dict[str, object]] = [
-            {"time": seconds_of(rows.span(row)[0]), **ends_of(combining.answer(kind, part)),
+            {**rows.told_of(row), **ends_of(combining.answer(kind, part)),
              **(parts_of(part) if kind == "mean" else {})} for row, part in enumerate(parts)]
         told: dict[str, object] = {
-            "streams": pattern, "kind": kind, "unit": self._unit(kind, names),
-            "from": seconds_of(rows.first), "to": seconds_of(rows.last), **matched,
-            "step": seconds_of(rows.step), "rows": shown}
+            "streams": pattern, "kind": kind, "unit": self._unit(kind, names), **rows.told, **matched,
+            "rows": shown}
         return table_answer(request, told, [{key: each for key, each in row.items() if key != "parts"}
                                             for row in shown])
 
@@ -216,7 +239,12 @@ class Many:
         """What is known of one stream in each row: by a series where the rows are whole counts of it."""
         meaning = self._meaning(name)
         begin, end = -((meaning.origin - rows.first) // meaning.step), meaning.last(rows.last)
-        if rows.step % meaning.step or not 0 <= begin <= end < LAST_TIME:
+        edges = Counting(meaning.origin, meaning.step).edges(rows.edges) if rows.edges else ()
+        if kinds[0] in METERS and 1 < len(edges) == len(rows.edges):    # each until the next row
+            risen = await self._service.ask(
+                lambda store: store.rows(name, one_of(kinds[0], ALL_KINDS), edges))
+            return [{kinds[0]: row.interval} for row in risen]
+        if rows.edges or rows.step % meaning.step or not 0 <= begin <= end < LAST_TIME:
             return await asyncio.gather(*(self._part(name, kinds, *rows.span(row))
                                           for row in range(rows.count)))
         step = rows.step // meaning.step

@@ -10,6 +10,7 @@ from dataclasses import dataclass
 from .settings import Mapping
 
 _PLACE = re.compile(r"\{([^{}]*)\}")
+_TAGS = re.compile(r",[^/]*")
 
 
 @dataclass(frozen=True, slots=True)
@@ -35,6 +36,8 @@ class Mappings:
     def __init__(self, mappings: Sequence[Mapping]) -> None:
         self.mappings = mappings
         self._routes: dict[tuple[str, tuple[tuple[str, str], ...], str], Route | None] = {}
+        self._forms = [_form_of(mapping.stream) for mapping in mappings]
+        self._made: dict[str, Mapping | None] = {}
 
     def route(self, name: str, tags: Words[str, str], source: str) -> Route | None:
         """The stream of a reading. None where nothing matches it."""
@@ -46,6 +49,16 @@ class Mappings:
             self._routes.clear()
         self._routes[key] = found
         return found
+
+    def of_stream(self, stream: str) -> Mapping | None:
+        """The first mapping that may have made a stream of this name. None where none may."""
+        if stream not in self._made:
+            if len(self._made) >= MOST_KEPT:
+                self._made.clear()
+            may = (mapping for mapping, form in zip(self.mappings, self._forms)
+                   if _may_make(mapping, form, stream))
+            self._made[stream] = next(may, None)
+        return self._made[stream]
 
     def json_routes(self, name: str, source: str) -> Sequence[Route]:
         """The streams of a message that is JSON: one for each mapping with `json` that matches."""
@@ -63,6 +76,24 @@ class Mappings:
 
 MOST_KEPT = 10_000
 """So many routes are kept. Then it begins anew."""
+
+
+def _form_of(template: str | None) -> re.Pattern[str] | None:
+    """The names that a template of streams gives. None where there is no template."""
+    if template is None:
+        return None
+    texts = _PLACE.split(template)[::2]
+    return re.compile(".+".join(map(re.escape, texts)), re.DOTALL)
+
+
+def _may_make(mapping: Mapping, form: re.Pattern[str] | None, stream: str) -> bool:
+    """Whether a mapping gives this name to a stream: by its template, or to a name that it matches, which may
+    have tags behind it."""
+    if mapping.ignore:
+        return False
+    if form is not None:
+        return form.fullmatch(stream) is not None
+    return any(mapping.match.match(name) is not None for name in (stream, _TAGS.sub("", stream, 1)))
 
 
 def stream_of(mapping: Mapping, name: str, tags: Words[str, str], source: str) -> str | None:

@@ -11,7 +11,7 @@ from ..errors import SummaryStoreError
 from ..gauges import gauge_of, must_stand_alone
 from ..wire import NO_TARGET
 from .globs import Glob, GlobError
-from .settings import IGNORE, SOURCES, Description, Mapping, described
+from .settings import IGNORE, SHOWS, SOURCES, Description, Mapping, described
 from .tables import Table
 
 TARGET = "power 1 1 4 1"
@@ -39,7 +39,7 @@ def mapping_of(table: Table) -> Mapping:
     found = Mapping(glob, source, tags, _stream(table, glob), table.text("target") or TARGET,
                     table.whole("within", 1, 2**32 - 1), _description(table), _words(table), json, json_time,
                     table.truth("ignore"), table.span("lateness", 0), restart=_restart(table))
-    found = _timed(found, "time" in table)
+    found = replace(_timed(found, "time" in table), shows=_shows(table))
     table.end()
     if found.lateness > HOUR:
         raise table.wrong("lateness", "a reading waits an hour at most")
@@ -80,6 +80,14 @@ def _restart(table: Table) -> str | None:
         raise table.wrong("restart", f"a name such as \"{PLACE_OF_STREAM}~2\" is to stand here, and not "
                                      f"{found!r}")
     return found
+
+
+def _shows(table: Table) -> str | None:
+    """What the page draws."""
+    shows = table.text("shows")
+    if shows is not None and shows not in SHOWS:
+        raise table.wrong("shows", f"one of {', '.join(SHOWS)} is to stand here, and not {shows!r}")
+    return shows
 
 
 def _timed(mapping: Mapping, is_told: bool) -> Mapping:

@@ -10,6 +10,7 @@ from . import openapi_connect, openapi_others
 from .answers import json_answer
 from .endpoints import Access, Endpoint
 from .openapi_words import COUNT, TEXT, Json, operation, reference, word
+from .settings import SHOWS
 
 NUMBER: Json = {"type": ["number", "null"]}
 TIME: Json = {"oneOf": [{"type": "number", "description": "seconds since 1970"},
@@ -26,8 +27,9 @@ NAME: Json = {**STREAM, "name": "name", "in": "path"}
 ONE = word("stream", TEXT, False, "the name of a stream")
 SEVERAL = word("streams", TEXT, False, "a pattern of names with `*` and `?`: the answer is over all of them")
 WITHOUT = word("without", {"type": "array", "items": TEXT}, False, "patterns of names that are left out")
+ZONE = word("zone", TEXT, False, "the zone of times without one, and of days, as Europe/Berlin")
 RANGE = (word("from", TIME, False, "the first time; without it the first of all"),
-         word("to", TIME, False, "the last time; without it the last of all"))
+         word("to", TIME, False, "the last time; without it the last of all"), ZONE)
 LINES: Json = {"text/plain": {"schema": {"type": "string", "description": "InfluxDB's line protocol"}}}
 PRECISION = word("precision", {"enum": ["n", "ns", "u", "us", "ms", "s", "m", "h"]}, False, "of the times")
 
@@ -60,7 +62,8 @@ def _paths() -> Json:
         "/api/series": {"get": operation(
             "Answers about one span of time after another. Over several streams `from` has to be given.",
             (ONE, SEVERAL, word("kind", {"enum": [*KINDS, *METERS]}), *RANGE,
-             word("step", TEXT, False, "seconds, or a text such as 15min"),
+             word("step", TEXT, False, "seconds, or a text such as 15min; with `zone` 1d, 1w, 1mon and 1y "
+                  "are its days, weeks, months and years, from midnight to midnight"),
              word("rows", COUNT, False, "about so many rows, in the place of a step")), reference("Series"))},
         "/api/access": {"get": operation(
             "What the token that is sent may do", (),
@@ -116,7 +119,7 @@ def _object(properties: Json) -> Json:
 
 def document() -> Json:
     """The document."""
-    row: dict[str, object] = {"time": NUMBER}
+    row: dict[str, object] = {"time": NUMBER, "until": NUMBER}
     rows: Json = {"type": "array", "items": _object({**row, **ENDS})}
     newest = _object({"time": NUMBER, "lo": NUMBER, "hi": NUMBER})
     value = _object({"time": NUMBER, "value": NUMBER})
@@ -129,13 +132,16 @@ def document() -> Json:
                           "reason": TEXT}),
         "Stream": _object({
             "name": TEXT, "unit": {"type": ["string", "null"]}, "kind": {"enum": ["counter", "gauge", None]},
+            "shows": {"enum": [*SHOWS, None]}, "words": {"type": "object"},
             "labels": {"type": "object"}, "target": TEXT,
-            "within": {"type": ["integer", "null"]}, "values": COUNT, "windows": COUNT, "landmarks": COUNT,
+            "within": {"type": ["integer", "null"]}, "within_seconds": NUMBER, "values": COUNT,
+            "windows": COUNT, "landmarks": COUNT,
             "open_landmark": {"type": ["boolean", "null"]}, "last": NUMBER,
             "newest": {"oneOf": [{"type": "null"}, newest]}}),
         "Answer": _object({**words, **ENDS}),
         "Series": _object({"stream": TEXT, "kind": TEXT, "unit": {"type": ["string", "null"]},
-                           "from": NUMBER, "to": NUMBER, "step": NUMBER, "rows": rows}),
+                           "from": NUMBER, "to": NUMBER, "step": {"oneOf": [NUMBER, TEXT]}, "zone": TEXT,
+                           "notice": {"type": ["string", "null"]}, "rows": rows}),
         "Window": _object(window),
         "Landmarks": _object({"stream": TEXT, "unknown": {"type": "integer"}, "landmarks": {
             "type": "array", "items": _object({"from": NUMBER, "to": NUMBER})},

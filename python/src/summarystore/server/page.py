@@ -40,9 +40,9 @@ SCRIPT, STYLE, PICTURE, PAGE = "text/javascript", "text/css", "image/svg+xml", "
 FILES = {
     "icon.svg": PICTURE, "page.css": STYLE,
     **{f"{name}.js": SCRIPT for name in (
-        "api", "csv", "detail", "dialog", "dom", "facts", "gestures", "list", "live", "loading", "managing",
-        "marking", "notices", "numbers", "others", "page", "painting", "plot", "reader", "sparkline", "theme",
-        "times", "view")},
+        "api", "csv", "detail", "dialog", "dom", "facts", "gestures", "list", "live", "loading",
+        "managing", "marking", "notices", "numbers", "others", "page", "painting", "plot", "reader",
+        "shapes", "sparkline", "steps", "theme", "times", "view")},
 }
 """The files of the page beside `index.html`, at `/static/`."""
 

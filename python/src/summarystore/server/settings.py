@@ -13,10 +13,13 @@ from .globs import Glob
 SOURCES = ("http", "influx", "graphite", "mqtt", "prometheus")
 """Where a reading comes from: JSON, line protocol, Graphite's lines, a broker, or remote_write."""
 
+SHOWS = ("sum", "increase", "mean", "state")
+"""What the page draws of a stream: sums or rises as bars, means, or a timeline of states."""
+
 IGNORE = "ignore"
 """What stands in `words` for a word that isn't kept."""
 
-__all__ = ["IGNORE", "SOURCES", "Description", "Mapping", "described"]
+__all__ = ["IGNORE", "SHOWS", "SOURCES", "Description", "Mapping", "described"]
 
 
 @dataclass(frozen=True)
@@ -31,7 +34,8 @@ class Mapping:
     `sensors.0.temperature`, and `json_time` where its time stands, if it has one. With `ignore` what is
     its own isn't kept, and that is no refusal. A reading waits `lateness` nanoseconds for earlier ones.
     `time_told`: the file says how fine times are. `restart` is the name of the stream that takes the readings
-    of one whose newest time lies ahead of the clock, with `{stream}` for the name of that one.
+    of one whose newest time lies ahead of the clock, with `{stream}` for the name of that one. `shows` is
+    what the page draws of its streams.
     """
 
     match: Glob
@@ -48,6 +52,7 @@ class Mapping:
     lateness: int = 0
     time_told: bool = True
     restart: str | None = None
+    shows: str | None = None
 
 
 def described(scale: object | None, time: str | None, since: object | None, unit: str | None,

@@ -1,5 +1,7 @@
 // What is shown as a file of CSV: a line for each row of each stream, with every digit that the service gave.
 
+import { untilOf } from "./times.js";
+
 const HEAD = ["stream", "kind", "unit", "from", "to", "lo", "hi", "may be none"];
 const FORMULA = /^[=+\-@\t\r]/;
 const SPECIAL = /[",\r\n]/;
@@ -15,8 +17,8 @@ const moment = (seconds) => new Date(seconds * 1000).toISOString();
 /** The lines of one stream: those of its rows that are seen and surely or perhaps have a value. */
 function linesOf({ name, kind, unit, rows, step }, from, to) {
   const before = [name, kind, unit].map((text) => cell(text));
-  return rows.filter((row) => !row.none && row.time + step > from && row.time < to)
-    .map((row) => [...before, moment(row.time), moment(row.time + step), String(row.lo), String(row.hi),
+  return rows.filter((row) => !row.none && untilOf(row, step) > from && row.time < to)
+    .map((row) => [...before, moment(row.time), moment(untilOf(row, step)), String(row.lo), String(row.hi),
       row.maybe_none ? "true" : "false"].join(","));
 }
 

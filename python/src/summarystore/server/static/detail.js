@@ -1,7 +1,7 @@
 // The stream that is looked at: its newest value, its chart, the answers over what is seen, and its landmark.
 
 import { ServiceError } from "./api.js";
-import { byId, debounced, make, say, throttled } from "./dom.js";
+import { byId, debounced, make, say, sayNumbers, throttled } from "./dom.js";
 import { showFacts, showName, showNewest } from "./facts.js";
 import { csvOf, fileName, saveFile } from "./csv.js";
 import { listen } from "./gestures.js";
@@ -12,6 +12,7 @@ import { brief, isKnown, words } from "./numbers.js";
 import { Others } from "./others.js";
 import { Plot } from "./plot.js";
 import { Reader } from "./reader.js";
+import { kindOf, shapeOf } from "./shapes.js";
 import * as times from "./times.js";
 import { RANGES, View } from "./view.js";
 
@@ -50,6 +51,7 @@ export class Detail {
     Object.assign(this, { onChange, onError, streamOf, names });
     this.stream = null;
     this.kind = "mean";
+    this.chosenKind = "mean";
     this.view = new View();
     this.plot = window.Chart ? new Plot(byId("canvas")) : null;
     this.loader = new Loader({
@@ -86,6 +88,13 @@ export class Detail {
 
   digitsOf(kind) {
     return kind === "count" ? 0 : this.stream?.digits ?? 0;
+  }
+
+  /** How the rows are drawn, and what stands at the axis. */
+  get drawn() {
+    const { shows, words = {} } = this.stream;
+    const shape = shapeOf(shows, this.kind);
+    return { shape, words, unit: shape === "states" && Object.keys(words).length ? "" : this.unit };
   }
 
   /** How wide the chart is, in pixels. */
@@ -146,7 +155,10 @@ export class Detail {
     const isOther = stream.name !== this.stream?.name;
     this.stream = stream;
     const kinds = kindsOf(stream);
-    this.kind = [kind, this.kind, "mean"].find((each) => kinds.includes(each));
+    const shown = isOther ? kindOf(stream.shows) ?? this.chosenKind : this.kind;
+    if (kinds.includes(kind)) this.chosenKind = kind;
+    this.kind = [kind, shown, "mean"].find((each) => kinds.includes(each));
+    byId("kinds").dataset.count = kinds.length;
     for (const each of Object.keys(NAMES)) {
       for (const part of [byId(`kind-${each}`), byId(`kind-${each}`).nextSibling]) part.hidden = !kinds.includes(each);
     }
@@ -181,7 +193,7 @@ export class Detail {
     this.isFirstAsked = false;
     this.reader.readAt(-1);
     this.model = { rows: [], outer: [], landmarks: [], values: [], step: 1 };
-    this.plot?.draw({ ...this.model, newest: null, from: this.view.from, to: this.view.to, kind: this.kind });
+    this.plot?.draw({ ...this.model, newest: null, from: this.view.from, to: this.view.to, kind: this.kind, ...this.drawn });
     for (const kind of kindsOf(this.stream)) byId(`answer-${kind}`).textContent = "…";
     this.over("");
   }
@@ -224,9 +236,10 @@ export class Detail {
 
   chooseKind(kind) {
     this.kind = kind;
+    this.chosenKind = kind;
     this.others.rescale();
     this.head();
-    this.plot?.draw({ kind, rows: [], outer: [] });
+    this.plot?.draw({ kind, rows: [], outer: [], ...this.drawn });
     this.ask();
     this.onChange();
   }
@@ -271,7 +284,7 @@ export class Detail {
     this.plot?.look(this.view.from, this.view.to);
     this.caption();
     this.reader.place();
-    this.loader.show(this.stream.name, this.view, this.kind, kindsOf(this.stream));
+    this.loader.show(this.stream.name, this.view, this.kind, kindsOf(this.stream), this.stream.within_seconds);
     if (this.waitsForFirst) this.busy(true, true);
     else this.loader.soon();
     this.changed();
@@ -280,7 +293,7 @@ export class Detail {
   ask() {
     this.plot?.look(this.view.from, this.view.to);
     this.caption();
-    this.loader.show(this.stream.name, this.view, this.kind, kindsOf(this.stream));
+    this.loader.show(this.stream.name, this.view, this.kind, kindsOf(this.stream), this.stream.within_seconds);
     this.loadedRoom = this.room;
     if (this.waitsForFirst) this.busy(true, true);
     else this.loader.load();
@@ -293,7 +306,8 @@ export class Detail {
   }
 
   caption() {
-    const text = `${CAPTIONS[this.kind]} ${times.length(this.model.step)}`;
+    const { step, grid } = this.model;
+    const text = `${CAPTIONS[this.kind]} ${times.length(step)}${grid?.isUtc && step >= times.DAY ? " of UTC" : ""}`;
     say(byId("caption"), this.unit ? `${text}, ${this.unit}` : text);
     say(byId("seen"), times.stretch(this.view.from, this.view.to));
     say(byId("zone"), times.zone(this.view.to));
@@ -305,7 +319,7 @@ export class Detail {
   rows(more) {
     const read = this.reader.middle;
     Object.assign(this.model, more);
-    this.plot?.draw({ ...this.model, newest: this.stream.newest, from: this.view.from, to: this.view.to });
+    this.plot?.draw({ ...this.model, newest: this.stream.newest, from: this.view.from, to: this.view.to, ...this.drawn });
     if (!performance.getEntriesByName(PICTURE).length) performance.mark(PICTURE);
     byId("legend-outer").hidden = !this.model.outer.length;
     byId("legend-landmark").hidden = !this.model.landmarks.length && !this.model.values.length;
@@ -322,7 +336,7 @@ export class Detail {
       const place = byId(`answer-${kind}`);
       const given = [this.unitOf(kind), this.digitsOf(kind)];
       const text = brief(answer, ...given);
-      say(place, text.length > LONGEST_TILE ? brief(answer, "", given[1]) : text);
+      sayNumbers(place, text.length > LONGEST_TILE ? brief(answer, "", given[1]) : text);
       place.title = words(answer, ...given);
       place.parentNode.classList.toggle("is-exact", isKnown(answer));
     }
@@ -332,7 +346,7 @@ export class Detail {
   emptiness() {
     if (!this.plot) return;
     const { from, to } = this.view;
-    const isSeen = this.model.rows.some((row) => !row.none && row.time + this.model.step > from && row.time < to);
+    const isSeen = this.model.rows.some((row) => !row.none && times.untilOf(row, this.model.step) > from && row.time < to);
     const { newest } = this.view.limits;
     if (isSeen || newest === null || newest === undefined) {
       this.over(isSeen ? "" : "No reading has come yet.");

@@ -32,6 +32,21 @@ export function say(node, text) {
   if (node.textContent !== text) node.textContent = text;
 }
 
+const LEAST_SIZE = 9;
+
+/** Sets one or two numbers, none of which breaks: where they are too long for their place they get smaller. */
+export function sayNumbers(node, text) {
+  if (node.textContent === text) return;
+  const [first, ...rest] = text.split(" ").map((part) => make("span", { class: "number" }, part));
+  node.replaceChildren(first, ...rest.flatMap((part) => [" ", part]));
+  node.style.fontSize = "";
+  let size = parseFloat(getComputedStyle(node).fontSize);
+  while (node.scrollWidth > node.clientWidth && size > LEAST_SIZE) {
+    size -= 1;
+    node.style.fontSize = `${size}px`;
+  }
+}
+
 /** Calls a function once the calls have paused for so long. */
 export function debounced(milliseconds, call) {
   let timer = 0;

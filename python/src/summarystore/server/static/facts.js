@@ -31,13 +31,20 @@ export function showNewest({ newest, last, unit, digits }) {
   byId("when").title = times.moment(time);
 }
 
+/** The step of a stream: in its own counts, and as long as that is. */
+function stepIn(within, seconds) {
+  const long = seconds ? times.length(seconds) : "";
+  return long ? `${local(within, 0)}, ${/^\d/.test(long) ? long : `a whole ${long}`}` : local(within, 0);
+}
+
 /** How much there is of a stream, and since when. */
-export function showFacts({ values, windows, landmarks, target, last }, first) {
+export function showFacts({ values, windows, landmarks, target, within, within_seconds: seconds, last }, first) {
   const facts = [
     ["Readings", values === undefined ? null : local(values, 0)],
     ["Kept in", windows === undefined ? null : counted(windows, "window")],
     ["Landmarks", landmarks ? local(landmarks, 0) : null],
     ["Target", target],
+    ["Within", within ? stepIn(within, seconds) : null],
     ["First", first === null ? null : times.dayAndTime(first)],
     ["Newest", last === null || last === undefined ? null : times.dayAndTime(last)],
   ];

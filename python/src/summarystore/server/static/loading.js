@@ -3,7 +3,8 @@
 
 import { ask, isAborted } from "./api.js";
 import { debounced } from "./dom.js";
-import { now, roundStep, rowStart } from "./times.js";
+import { Step, forgetZone, stepOf } from "./steps.js";
+import { now } from "./times.js";
 
 const PIXELS_A_ROW = 2.6;
 const MOST_ROWS = 1200;
@@ -15,28 +16,22 @@ export const METERS = { counter: ["increase"], gauge: ["integral", "time_mean"] 
 /** What a stream is asked. */
 export const kindsOf = (stream) => [...KINDS, ...METERS[stream?.kind] ?? []];
 
-/** The length of a row: as the room is, and no shorter than the readings are apart. */
-export function stepFor(view, width, readings) {
+/** The length of a row: as the room is, no shorter than the readings are apart, and as the stream's step has it. */
+export function stepFor(view, width, readings, within = null) {
   const room = Math.min(MOST_ROWS, Math.max(20, width / PIXELS_A_ROW));
   const from = Math.max(view.from, view.limits.first ?? -Infinity);
   const to = Math.min(view.to, view.limits.newest ?? Infinity);
   const apart = readings > 1 ? (to - from) / readings : 0;
-  return roundStep(Math.max(view.span / room, apart > 0 ? apart * 0.999 : 0, 1));
-}
-
-/** The end of the row that a time is in, of rows that begin at `start`. */
-function lastOf(start, step, time) {
-  return start + Math.ceil((time - start) / step) * step - 1;
+  return stepOf(Math.max(view.span / room, apart > 0 ? apart * 0.999 : 0, 1), within, view.to);
 }
 
 /** The times to ask for: some more than is seen, in whole rows, and not far past what there is. */
 export function timesFor(view, step) {
   const { first, newest } = view.limits;
-  const latest = Math.max(now(), newest ?? 0) + step;
+  const latest = Math.max(now(), newest ?? 0) + step.seconds;
   const from = Math.max(view.from - view.span * MARGIN, first ?? -Infinity);
   const to = Math.min(view.to + view.span * MARGIN, latest);
-  const start = rowStart(from, step);
-  return { from: start, to: Math.max(start, lastOf(start, step, to)) };
+  return step.span(from, to);
 }
 
 /** Rows with those of a later answer in the place of theirs. */
@@ -48,7 +43,7 @@ export function joined(rows, later) {
 /** The least and the greatest of each row as one band. */
 function outerOf(least, greatest) {
   return least.map((row, at) => ({
-    time: row.time, lo: row.lo, hi: greatest[at]?.hi, none: row.none || (greatest[at]?.none ?? true),
+    time: row.time, until: row.until, lo: row.lo, hi: greatest[at]?.hi, none: row.none || (greatest[at]?.none ?? true),
   }));
 }
 
@@ -70,11 +65,11 @@ export class Loader {
     this.stream = null;
     this.rows = [];
     this.outer = [];
-    this.step = 1;
+    this.step = new Step(1);
   }
 
-  show(stream, view, kind, kinds = KINDS) {
-    Object.assign(this, { stream, view, kind, kinds });
+  show(stream, view, kind, kinds = KINDS, within = null) {
+    Object.assign(this, { stream, view, kind, kinds, within });
   }
 
   /** Asks anew for all that is seen, once hands have paused. */
@@ -98,7 +93,7 @@ export class Loader {
     this.control = control;
     this.tellBusy();
     try {
-      await this.ask(control.signal);
+      await this.ask(control.signal).catch((error) => this.withoutZone(error, control.signal));
     } catch (error) {
       if (control === this.control && !isAborted(error)) this.onError(error);
     } finally {
@@ -108,6 +103,13 @@ export class Loader {
         if (this.isTailWanted) this.tail();
       }
     }
+  }
+
+  /** A service that doesn't know the zone of the reader is asked without it. */
+  async withoutZone(error, signal) {
+    if (error.status !== 400 || !/zone/.test(error.message)) throw error;
+    forgetZone();
+    await this.ask(signal);
   }
 
   /** What is under way isn't wanted any more. */
@@ -126,15 +128,20 @@ export class Loader {
   async ask(signal) {
     const { view, kind } = this;
     const count = await this.query("count", signal);
-    const step = stepFor(view, this.width(), Number(count.mid));
+    const step = stepFor(view, this.width(), Number(count.mid), this.within);
     const [series, marked, ...answers] = await Promise.all([
       this.series(step, timesFor(view, step), signal),
       this.landmarks(signal),
       ...this.kinds.map((each) => (each === "count" ? count : this.query(each, signal))),
     ]);
     Object.assign(this, series);
-    this.onRows({ ...series, kind, landmarks: marked.landmarks, values: marked.values });
+    this.tellRows({ kind, landmarks: marked.landmarks, values: marked.values });
     this.answered(answers);
+  }
+
+  tellRows(more) {
+    const { rows, outer, step } = this;
+    this.onRows({ rows, outer, step: step.seconds, grid: step, ...more });
   }
 
   /** The landmarks about what is seen. There may be more values in them than the service tells. */
@@ -150,17 +157,17 @@ export class Loader {
 
   /** The rows of the kind, with a mean also the least and the greatest. A stream may have longer steps than asked. */
   async series(step, times, signal) {
-    const of = (kind) => ask("api/series", { stream: this.stream, kind, ...times, step }, signal);
+    const of = (kind) => ask("api/series", { stream: this.stream, kind, ...times, ...step.asked }, signal);
     const kinds = this.kind === "mean" ? ["mean", "min", "max"] : [this.kind];
     const [main, least, greatest] = await Promise.all(kinds.map(of));
-    return { step: main.step ?? step, rows: main.rows, outer: least ? outerOf(least.rows, greatest.rows) : [] };
+    return { step: step.answered(main.step), rows: main.rows, outer: least ? outerOf(least.rows, greatest.rows) : [] };
   }
 
   /** Asks only for the newest rows, after a reading came. */
   async tail() {
     this.isTailWanted = Boolean(this.stream && (this.control || this.tailing));
     if (!this.stream || this.isTailWanted) return;
-    if (!this.rows.length || now() - this.rows.at(-1).time > MOST_ROWS * this.step) {
+    if (!this.rows.length || now() - this.rows.at(-1).time > MOST_ROWS * this.step.seconds) {
       this.soon();
       return;
     }
@@ -178,12 +185,12 @@ export class Loader {
 
   async askTail(signal) {
     const { step, kind } = this;
-    const from = Math.max(this.rows.at(-1).time - 2 * step, this.rows[0].time);
-    const later = await this.series(step, { from, to: lastOf(from, step, now() + 1) }, signal);
+    const { time: from } = this.rows.at(-3) ?? this.rows[0];
+    const later = await this.series(step, { from, to: step.span(from, now() + 1).to }, signal);
     if (later.step !== step) throw new Error("The step of the stream has changed.");
     this.rows = joined(this.rows, later.rows);
     this.outer = joined(this.outer, later.outer);
-    this.onRows({ rows: this.rows, outer: this.outer, step, kind });
+    this.tellRows({ kind });
     this.answered(await Promise.all(this.kinds.map((each) => this.query(each, signal))));
   }
 

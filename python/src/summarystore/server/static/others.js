@@ -5,6 +5,7 @@ import { byId, make, say } from "./dom.js";
 import { addressOf, partsOf } from "./list.js";
 import { joined, timesFor } from "./loading.js";
 import { brief, words } from "./numbers.js";
+import { untilOf } from "./times.js";
 
 export const COLOURS = ["a", "b", "c", "d"];
 const SCALES = ["y", "y2"];
@@ -81,7 +82,8 @@ export class Others {
 
   /** Draws them, and says their answers. */
   show() {
-    this.of.plot?.draw({ others: this.drawn });
+    const right = this.all.find(({ scale }) => scale === "y2");
+    this.of.plot?.draw({ others: this.drawn, otherUnit: right ? this.unitOf(right.name) : "" });
     for (const other of this.all) other.tell(this.unitOf(other.name), this.digitsOf(other.name));
   }
 
@@ -110,7 +112,7 @@ export class Others {
 
   /** Asks for the rows of all, of the times and the step that the stream itself has. */
   async load(isTail = false) {
-    if (!this.all.length) return;
+    if (!this.all.length || !this.of.model.grid) return;
     this.control?.abort();
     const control = new AbortController();
     this.control = control;
@@ -123,23 +125,23 @@ export class Others {
   }
 
   async ask(other, isTail, signal) {
-    const { view, kind, model: { step } } = this.of;
-    const times = timesFor({ from: view.from, to: view.to, span: view.span, limits: { first: null, newest: null } }, step);
-    const before = isTail && other.kind === kind && other.asked === step ? other.rows : [];
-    const from = before.length ? Math.max(before.at(-1).time - 2 * step, before[0].time) : times.from;
+    const { view, kind, model: { grid } } = this.of;
+    const times = timesFor({ from: view.from, to: view.to, span: view.span, limits: { first: null, newest: null } }, grid);
+    const before = isTail && other.kind === kind && other.asked === grid ? other.rows : [];
+    const { time: from } = before.at(-3) ?? before[0] ?? { time: times.from };
     const of = { stream: other.name, kind };
     const [series, answer] = await Promise.all([
-      ask("api/series", { ...of, from, to: times.to, step }, signal),
+      ask("api/series", { ...of, from, to: times.to, ...grid.asked }, signal),
       ask("api/query", { ...of, from: view.from, to: view.end }, signal)]);
     Object.assign(other, {
-      kind, asked: step, step: series.step ?? step, rows: joined(before, series.rows), answer,
+      kind, asked: grid, step: grid.answered(series.step).seconds, rows: joined(before, series.rows), answer,
     });
   }
 
   /** What each says at a time. */
   toldAt(time) {
     return this.drawn.map(({ name, colour, rows, step }) => {
-      const row = rows.filter((each) => each.time <= time && time < each.time + step).at(-1);
+      const row = rows.filter((each) => each.time <= time && time < untilOf(each, step)).at(-1);
       const told = row ? words(row, this.unitOf(name), this.digitsOf(name)) : "no reading";
       return { colour, text: `${partsOf(name).last}: ${told}` };
     });

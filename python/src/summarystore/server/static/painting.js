@@ -1,15 +1,17 @@
 // What Chart.js doesn't draw: the band, row by row on each row's own times, landmarks, what is exact, and the cursor.
 
 import { isKnown } from "./numbers.js";
-import { now } from "./times.js";
+import { drawBars, drawStates } from "./shapes.js";
+import { now, untilOf } from "./times.js";
 
-const STRIP = 5;
+export const STRIP = 5;
 const LEAST_EDGE = 5.5;
 
 /** Where a row ends. The row that the present is in ends now. */
 export function endOf(row, step) {
   const present = now();
-  return row.time < present && row.time + step > present ? present : row.time + step;
+  const until = untilOf(row, step);
+  return row.time < present && until > present ? present : until;
 }
 
 /** The rows with a value, those beside each other together: each with its edges in pixels. */
@@ -19,7 +21,7 @@ function boxesOf(rows, step, { x, y }) {
   for (const row of rows) {
     if (row.none) continue;
     if (before === null || row.time > before) runs.push([]);
-    before = row.time + step;
+    before = untilOf(row, step);
     runs.at(-1).push({
       left: x.getPixelForValue(row.time), right: x.getPixelForValue(endOf(row, step)),
       top: y.getPixelForValue(row.hi), bottom: y.getPixelForValue(row.lo), known: isKnown(row),
@@ -59,7 +61,7 @@ function edgeBoxes(ctx, boxes, colour) {
   ctx.stroke();
 }
 
-/** Draws the bands: of the readings, and over it that of the answers. */
+/** Draws what the answers say: bands, and below them those of the readings; bars, or a timeline. */
 export const bands = {
   id: "bands",
   beforeDatasetsDraw({ ctx, chartArea: area, scales, model }) {
@@ -67,14 +69,18 @@ export const bands = {
     ctx.beginPath();
     ctx.rect(area.left, area.top, area.right - area.left, area.bottom - area.top);
     ctx.clip();
-    for (const boxes of boxesOf(model.outer, model.step, scales)) fillBoxes(ctx, boxes, model.colours.outer);
-    for (const boxes of boxesOf(model.rows, model.step, scales)) {
-      fillBoxes(ctx, boxes, model.colours.band);
-      edgeBoxes(ctx, boxes, model.colours["band-edge"]);
-    }
+    ({ bands: drawBands, bars: drawBars, states: drawStates })[model.shape](ctx, model, scales);
     ctx.restore();
   },
 };
+
+function drawBands(ctx, { rows, outer, step, colours }, scales) {
+  for (const boxes of boxesOf(outer, step, scales)) fillBoxes(ctx, boxes, colours.outer);
+  for (const boxes of boxesOf(rows, step, scales)) {
+    fillBoxes(ctx, boxes, colours.band);
+    edgeBoxes(ctx, boxes, colours["band-edge"]);
+  }
+}
 
 /** Draws the middle of a run of boxes as steps. */
 function stepBoxes(ctx, boxes, colour) {
@@ -138,18 +144,18 @@ function stretches(rows, step) {
   return found;
 }
 
-/** Draws along the lower edge what is exact and what is an interval, as wide as its time. */
+/** Draws under the lower edge what is exact and what is an interval, as wide as its time. */
 export const strip = {
   id: "strip",
   afterDatasetsDraw({ ctx, chartArea: area, scales: { x }, model }) {
     ctx.save();
     ctx.beginPath();
-    ctx.rect(area.left, area.bottom - STRIP, area.right - area.left, STRIP);
+    ctx.rect(area.left, area.bottom + 1, area.right - area.left, STRIP);
     ctx.clip();
     for (const { known, from, to } of stretches(model.rows, model.step)) {
       const left = x.getPixelForValue(from);
       ctx.fillStyle = known ? model.colours.exact : model.colours.band;
-      ctx.fillRect(left, area.bottom - STRIP, Math.max(1, x.getPixelForValue(to) - left), STRIP);
+      ctx.fillRect(left, area.bottom + 1, Math.max(1, x.getPixelForValue(to) - left), STRIP);
     }
     ctx.restore();
   },
@@ -197,3 +203,18 @@ function drawReading(ctx, { colours }, middle, top, bottom) {
   }
   ctx.stroke();
 }
+
+/** Says at the upper end of each axis what its values are measured in. */
+export const units = {
+  id: "units",
+  afterDatasetsDraw({ ctx, chartArea: area, model }) {
+    ctx.save();
+    ctx.font = model.font;
+    ctx.fillStyle = model.colours.muted;
+    ctx.textBaseline = "top";
+    ctx.fillText(model.unit, area.left + 6, area.top + 4);
+    ctx.textAlign = "right";
+    ctx.fillText(model.otherUnit, area.right - 6, area.top + 4);
+    ctx.restore();
+  },
+};

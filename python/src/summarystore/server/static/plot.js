@@ -1,8 +1,9 @@
 // The chart: Chart.js draws the axes, the middle of the band, and what is known exactly. The rest is in painting.js.
 
 import { brief, isKnown } from "./numbers.js";
-import { bands, cursor, endOf, landmarks, others, strip } from "./painting.js";
-import { marks } from "./times.js";
+import { STRIP, bands, cursor, endOf, landmarks, others, strip, units } from "./painting.js";
+import { besides } from "./shapes.js";
+import { marks, untilOf } from "./times.js";
 
 const PER_TIME_MARK = 72;
 const PER_DATE = 88;
@@ -41,25 +42,25 @@ function middles(rows, step) {
 
 /** The least and the greatest of what is seen. */
 function extentOf(rows, from, to, step) {
-  const seen = rows.filter((row) => !row.none && row.time + step > from && row.time < to);
+  const seen = rows.filter((row) => !row.none && untilOf(row, step) > from && row.time < to);
   if (!seen.length) return {};
   return {
     least: Math.min(...seen.map((row) => Number(row.lo))), greatest: Math.max(...seen.map((row) => Number(row.hi))),
   };
 }
 
-/** The ends of a scale on which some extents are seen. */
+/** The ends of a scale on which some extents are seen: it begins at 0 where nothing is below. */
 function suggested(extents) {
   const seen = extents.filter(({ least }) => least !== undefined);
-  if (!seen.length) return { suggestedMin: undefined, suggestedMax: undefined };
-  return {
-    suggestedMin: Math.min(...seen.map(({ least }) => least)), suggestedMax: Math.max(...seen.map(({ greatest }) => greatest)),
-  };
+  if (!seen.length) return { suggestedMin: undefined, suggestedMax: undefined, beginAtZero: true };
+  const suggestedMin = Math.min(...seen.map(({ least }) => least));
+  const suggestedMax = Math.max(...seen.map(({ greatest }) => greatest));
+  return { suggestedMin, suggestedMax, beginAtZero: suggestedMin >= 0 };
 }
 
 const EMPTY = {
   rows: [], outer: [], step: 1, landmarks: [], values: [], newest: null, from: 0, to: 1, kind: "mean", cursor: -1,
-  others: [],
+  others: [], unit: "", otherUnit: "", font: "", shape: "bands", words: {},
 };
 
 /** One chart on a canvas. `draw` takes what is to be seen, `look` only other ends of the times. */
@@ -86,7 +87,7 @@ export class Plot {
     return {
       type: "line",
       data: { datasets },
-      plugins: [landmarks, bands, others, strip, cursor],
+      plugins: [landmarks, bands, others, strip, units, cursor],
       options: {
         animation: false, responsive: true, maintainAspectRatio: false, normalized: true, events: [],
         layout: { autoPadding: false, padding: { top: 7, right: 7 } },
@@ -99,7 +100,7 @@ export class Plot {
   timeAxis() {
     return {
       type: "linear", min: 0, max: 1, afterBuildTicks: (axis) => this.markTimes(axis),
-      ticks: { autoSkip: false, maxRotation: 0, callback: (_, at, all) => all[at].label ?? "" },
+      ticks: { autoSkip: false, maxRotation: 0, padding: STRIP + 4, callback: (_, at, all) => all[at].label ?? "" },
       grid: { drawBorder: false, drawTicks: false },
       afterFit: (axis) => { axis.paddingRight = 0; },
     };
@@ -137,6 +138,8 @@ export class Plot {
 
   /** All marks of the values have as many digits as the steps between them need. */
   labelOf(value, all) {
+    const { shape, words } = this.model;
+    if (shape === "states" && Object.keys(words).length) return words[value] ?? "";
     const text = String(Number(value.toPrecision(12)));
     const apart = all.length > 1 ? Math.abs(all[1].value - all[0].value) : 1;
     const digits = Math.min(9, Math.max(0, Math.ceil(-Math.log10(apart) - 1e-9)));
@@ -158,19 +161,20 @@ export class Plot {
       axis.ticks.color = colours.muted;
       axis.ticks.font = { family: getComputedStyle(document.body).fontFamily, size: 12 };
     }
+    this.model.font = `12px ${getComputedStyle(document.body).fontFamily}`;
     this.chart.update("none");
   }
 
   /** Shows a model: what isn't given stays. */
   draw(more) {
     Object.assign(this.model, more);
-    const { rows, step, values, kind } = this.model;
+    const { rows, step, values, shape } = this.model;
+    const lined = shape === "bands" ? rows : [];
     const data = {
-      middle: middles(rows, step), known: knownSteps(rows, step),
+      middle: middles(lined, step), known: knownSteps(lined, step),
       values: this.isOfValues ? values.map(({ time, value }) => ({ x: time, y: Number(value) })) : [],
     };
     for (const [name, points] of Object.entries(data)) this.chart.data.datasets[SETS[name]].data = points;
-    for (const scale of ["y", "y2"]) this.chart.options.scales[scale].beginAtZero = kind === "count";
     this.look(this.model.from, this.model.to);
   }
 
@@ -181,7 +185,8 @@ export class Plot {
     const { x, y, y2 } = this.chart.options.scales;
     Object.assign(x, { min: from, max: to });
     const on = (scale) => more.filter((other) => other.scale === scale).map((other) => extentOf(other.rows, from, to, other.step));
-    Object.assign(y, suggested([extentOf([...rows, ...outer], from, to, step), ...on("y")]));
+    const own = extentOf([...rows, ...outer], from, to, step);
+    Object.assign(y, suggested([own, ...on("y"), ...besides(this.model.shape, own)]));
     Object.assign(y2, suggested(on("y2")), { display: more.some(({ scale }) => scale === "y2") });
     this.chart.data.datasets[SETS.newest].data = this.newest();
     this.chart.update("none");
@@ -218,7 +223,7 @@ export class Plot {
   rowAt(time) {
     const { rows, step } = this.model;
     const at = rows.findLastIndex?.((row) => row.time <= time) ?? rows.filter((row) => row.time <= time).length - 1;
-    return at >= 0 && time < rows[at].time + step ? at : -1;
+    return at >= 0 && time < untilOf(rows[at], step) ? at : -1;
   }
 
   /** Where the reading of a row stands, in pixels of the canvas. */

@@ -35,7 +35,7 @@ export class Reader {
     byId("tip").hidden = !row;
     if (!row) return;
     const told = words(row, this.of.unit, this.of.digits);
-    const time = times.stretch(row.time, row.time + this.of.model.step);
+    const time = times.stretch(row.time, times.untilOf(row, this.of.model.step));
     say(byId("tip-value"), told);
     say(byId("tip-time"), time);
     byId("tip").classList.toggle("is-exact", isKnown(row));
@@ -60,9 +60,10 @@ export class Reader {
   /** The places of the rows that are seen. */
   seenRows() {
     const { from, to } = this.of.view;
-    const half = this.of.model.step / 2;
-    return [...this.of.model.rows.keys()].filter((at) => {
-      const middle = this.of.model.rows[at].time + half;
+    const { rows, step } = this.of.model;
+    return [...rows.keys()].filter((at) => {
+      const half = (times.untilOf(rows[at], step) - rows[at].time) / 2;
+      const middle = rows[at].time + half;
       return middle >= from && middle <= Math.min(to, times.now() + half);
     });
   }
@@ -90,11 +91,12 @@ export class Reader {
   table() {
     if (!byId("rows").open) return;
     const { from, to } = this.of.view;
-    const seen = this.of.model.rows.filter((row) => row.time + this.of.model.step > from && row.time < to && !row.none);
+    const { rows, step } = this.of.model;
+    const seen = rows.filter((row) => times.untilOf(row, step) > from && row.time < to && !row.none);
     const shown = seen.slice(-MOST_TABLE_ROWS).reverse();
     byId("rows-body").replaceChildren(...shown.map((row) => {
       const told = ends(row, this.of.digits);
-      return make("tr", {}, make("th", { scope: "row" }, times.stretch(row.time, row.time + this.of.model.step)),
+      return make("tr", {}, make("th", { scope: "row" }, times.stretch(row.time, times.untilOf(row, this.of.model.step))),
         make("td", {}, told.lo), make("td", {}, told.hi), make("td", {}, isKnown(row) ? "exactly" : "within"));
     }));
   }

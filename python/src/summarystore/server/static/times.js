@@ -4,6 +4,8 @@ const LOCALES = navigator.languages?.length ? [...navigator.languages] : undefin
 export const MINUTE = 60;
 export const HOUR = 3600;
 export const DAY = 86400;
+export const WEEK = 7 * DAY;
+export const MONTH = 30.4375 * DAY;
 export const YEAR = 365.25 * DAY;
 
 /** The present, in seconds. */
@@ -25,11 +27,17 @@ const BEYOND = "a time beyond the calendar";
 /** A time, or the end of the calendar where it lies beyond. */
 export const within = (seconds) => (isBeyond(seconds) ? Math.sign(seconds) * LAST : seconds);
 
+/** Where a row ends: those of a calendar say so. */
+export const untilOf = (row, step) => row.until ?? row.time + step;
+
+/** The name of the reader's zone. */
+export const zoneName = () => Intl.DateTimeFormat().resolvedOptions().timeZone;
+
 const date = (seconds) => new Date(within(seconds) * 1000);
 
 /** The zone that times are shown in, with its offset at a time: `Europe/Berlin, GMT+1`. */
 export function zone(seconds = now()) {
-  const name = Intl.DateTimeFormat().resolvedOptions().timeZone;
+  const name = zoneName();
   const parts = new Intl.DateTimeFormat("en-GB", { timeZoneName: "shortOffset" }).formatToParts(date(seconds));
   const offset = parts.find((part) => part.type === "timeZoneName")?.value ?? "";
   return name === offset || !offset ? name : `${name}, ${offset}`;
@@ -73,12 +81,12 @@ export function stretch(from, to) {
 /** The last time at or before a time at which a row begins: by the reader's clock, and weeks on Mondays. */
 export function rowStart(seconds, step) {
   const offset = step < HOUR ? 0 : -60 * date(seconds).getTimezoneOffset();
-  const origin = (step % (7 * DAY) ? 0 : 4 * DAY) - offset;
+  const origin = (step % WEEK ? 0 : 4 * DAY) - offset;
   return Math.floor((seconds - origin) / step) * step + origin;
 }
 
 const UNITS = [
-  [YEAR, "year"], [30.4375 * DAY, "month"], [DAY, "day"], [HOUR, "hour"], [MINUTE, "minute"], [1, "second"],
+  [YEAR, "year"], [MONTH, "month"], [DAY, "day"], [HOUR, "hour"], [MINUTE, "minute"], [1, "second"],
 ];
 
 function unitOf(seconds) {
@@ -102,6 +110,7 @@ export function freshness(seconds) {
 
 /** A length in words, as `5 minutes`. */
 export function length(seconds) {
+  if (seconds === WEEK) return "week";
   const fits = ([size]) => seconds >= size && Math.abs(seconds / size - Math.round(seconds / size)) < 1e-3;
   const [size, unit] = UNITS.find(fits) ?? unitOf(seconds);
   const many = new Intl.NumberFormat("en", { maximumFractionDigits: 1 }).format(seconds / size);
