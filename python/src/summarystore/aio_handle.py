@@ -20,7 +20,13 @@ if TYPE_CHECKING:
     from .aio_connecting import RemoteStore
 
 
-class Handle(Named["Store | RemoteStore"]):
+if TYPE_CHECKING:
+    Base = Named[Store | RemoteStore]
+else:
+    Base = Named
+
+
+class Handle(Base):
     """A stream of a store, as `store["home/hall"]`: the calls of `summarystore.handle.Handle`."""
 
     async def append(self, time: object = UNSAID, value: object = UNSAID) -> Stored | None:

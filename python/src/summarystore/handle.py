@@ -59,7 +59,13 @@ class Named(Generic[S]):
         return self.store.now(self.name)
 
 
-class Handle(Named["Store | RemoteStore"]):
+if TYPE_CHECKING:
+    Base = Named[Store | RemoteStore]
+else:
+    Base = Named
+
+
+class Handle(Base):
     """A stream of a store, as `store["home/hall"]`."""
 
     def append(self, time: object = UNSAID, value: object = UNSAID) -> Stored | None:

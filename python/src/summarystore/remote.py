@@ -122,8 +122,9 @@ def create(name: str, target: str | Sequence[object], **words: object) -> Ask[St
     """Makes a stream."""
     def result(told: Body) -> Stored:
         return Stored(int(str(told["values"])), int(str(told["windows"])))
-    given = {"name": name, "target": target if isinstance(target, str) else " ".join(map(str, target)),
-             **{key: str(word) if isinstance(word, datetime.date) else word for key, word in words.items()}}
+    given: dict[str, object] = {
+        "name": name, "target": target if isinstance(target, str) else " ".join(map(str, target)),
+        **{key: str(word) if isinstance(word, datetime.date) else word for key, word in words.items()}}
     return Ask("POST", "/api/streams", _json(given), result)
 
 
