@@ -129,6 +129,7 @@ def document() -> Json:
                           "reason": TEXT}),
         "Stream": _object({
             "name": TEXT, "unit": {"type": ["string", "null"]}, "kind": {"enum": ["counter", "gauge", None]},
+            "integrate": {"type": ["string", "null"]},
             "labels": {"type": "object"}, "target": TEXT,
             "within": {"type": ["integer", "null"]}, "values": COUNT, "windows": COUNT, "landmarks": COUNT,
             "open_landmark": {"type": ["boolean", "null"]}, "last": NUMBER,
