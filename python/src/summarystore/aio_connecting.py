@@ -13,21 +13,19 @@ from yarl import URL
 
 from . import calls, remote
 from .calls import Call
-from .codec import Codec
-from .description import Description
 from .errors import LateError, ServiceError, StoreClosedError, tell
 from .frames import columns_of, frame_of, names_left
 from .aio_handle import Handle
 from .present import UNSAID, reading_of
 from .aio_questions import Questions
 from .records import Stored, Time, Window
-from .remote import Ask, Body, Posts, RemoteNames
+from .remote import Ask, Body, Described, Posts, RemoteNames
 from .sending import OnRefused
 
 T = TypeVar("T")
 
 
-class RemoteStore(Questions):
+class RemoteStore(Described, Questions):
     """A store that a service holds. `aio.connect` makes it, for one event loop.
 
     Its calls are those of `aio.Store`, but for `check`. `append` answers nothing.
@@ -46,9 +44,6 @@ class RemoteStore(Questions):
     async def __aexit__(self, kind: type[BaseException] | None, error: BaseException | None,
                         trace: TracebackType | None) -> None:
         await self.close()
-
-    def __repr__(self) -> str:
-        return f"<summarystore.RemoteStore {self.path}>"
 
     async def close(self) -> None:
         """Asks nothing more. The service goes on."""
@@ -89,19 +84,6 @@ class RemoteStore(Questions):
 
     # ---- streams ------------------------------------------------------------------------
 
-    def codec(self, name: str) -> Codec:
-        """How a stream's times and values become whole numbers, and back."""
-        return self._names.codec(name)
-
-    def description(self, name: str) -> Description | None:
-        """How a stream is read. None where it takes and gives whole numbers."""
-        return self.codec(name).description
-
-    def now(self, name: str) -> Time:
-        """The present time of a described stream."""
-        codec = self.codec(name)
-        return codec.time_back(codec.now())
-
     def __getitem__(self, name: str) -> Handle:
         """One stream. Whether it stands is seen at the first call."""
         return Handle(self, name)
@@ -118,11 +100,10 @@ class RemoteStore(Questions):
                      kind: str | None = None, overflow: object | None = None,
                      integrate: str | None = None, rule: str | None = None) -> Stored:
         """Makes a stream, as `Store.create` does."""
-        made = await self._ask(remote.create({
-            "name": name, "target": target if isinstance(target, str) else " ".join(map(str, target)),
-            "within": within, "scale": scale, "time": time, "since": since, "unit": unit, "labels": labels,
-            "rounding": rounding, "exist_ok": exist_ok, "kind": kind, "overflow": overflow,
-            "integrate": integrate, "rule": rule}))
+        made = await self._ask(remote.create(
+            name, target, within=within, scale=scale, time=time, since=since, unit=unit, labels=labels,
+            rounding=rounding, exist_ok=exist_ok, kind=kind, overflow=overflow, integrate=integrate,
+            rule=rule))
         await self.refresh()
         return made
 

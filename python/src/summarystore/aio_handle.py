@@ -8,12 +8,11 @@ from collections.abc import AsyncIterator, Mapping, Sequence
 from contextlib import AbstractAsyncContextManager
 from typing import TYPE_CHECKING
 
-from .description import Description
-from .handle import LOOK
+from .handle import LOOK, Named
 from .interval import Interval, Presence
 from .kinds import Estimated, Kind
 from .present import UNSAID
-from .records import Estimate, Last, Reading, Stored, Time, Window
+from .records import Estimate, Last, Reading, Stored, Window
 from .sending import OnRefused
 from .series import Series
 
@@ -22,24 +21,14 @@ if TYPE_CHECKING:
     from .aio_connecting import RemoteStore
 
 
-class Handle:
+if TYPE_CHECKING:
+    Base = Named[Store | RemoteStore]
+else:
+    Base = Named
+
+
+class Handle(Base):
     """A stream of a store, as `store["home/hall"]`: the calls of `summarystore.handle.Handle`."""
-
-    def __init__(self, store: Store | RemoteStore, name: str) -> None:
-        self.store = store
-        self.name = name
-
-    def __repr__(self) -> str:
-        return f"<stream {self.name} of {self.store.path}>"
-
-    @property
-    def description(self) -> Description | None:
-        """How it is read. None where it takes whole numbers."""
-        return self.store.description(self.name)
-
-    def now(self) -> Time:
-        """The present time of it."""
-        return self.store.now(self.name)
 
     async def append(self, time: object = UNSAID, value: object = UNSAID) -> Stored | None:
         """As `Store.append`. Over a service nothing is answered."""

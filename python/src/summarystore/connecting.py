@@ -14,21 +14,19 @@ from urllib.response import addinfourl
 
 from . import calls, remote
 from .calls import Call
-from .codec import Codec
-from .description import Description
 from .errors import LateError, ServiceError, StoreClosedError, UnknownStreamError, tell
 from .frames import columns_of, frame_of, names_left
 from .handle import Handle
 from .present import UNSAID, reading_of
 from .questions import Questions
-from .records import Stored, Time, Window
-from .remote import Ask, Body, Posts, RemoteNames
+from .records import Stored, Window
+from .remote import Ask, Body, Described, Posts, RemoteNames
 from .sending import OnRefused
 
 T = TypeVar("T")
 
 
-class RemoteStore(Questions):
+class RemoteStore(Described, Questions):
     """A store that a service holds. `summarystore.connect` makes it, and threads may share it.
 
     Its calls are those of `Store`, but for `check` and `reordered`. `append` answers nothing.
@@ -48,9 +46,6 @@ class RemoteStore(Questions):
     def __exit__(self, kind: type[BaseException] | None, error: BaseException | None,
                  trace: TracebackType | None) -> None:
         self.close()
-
-    def __repr__(self) -> str:
-        return f"<summarystore.RemoteStore {self.path}>"
 
     def close(self) -> None:
         """Asks nothing more. The service goes on."""
@@ -94,19 +89,6 @@ class RemoteStore(Questions):
 
     # ---- streams ------------------------------------------------------------------------
 
-    def codec(self, name: str) -> Codec:
-        """How a stream's times and values become whole numbers, and back."""
-        return self._names.codec(name)
-
-    def description(self, name: str) -> Description | None:
-        """How a stream is read. None where it takes and gives whole numbers."""
-        return self.codec(name).description
-
-    def now(self, name: str) -> Time:
-        """The present time of a described stream."""
-        codec = self.codec(name)
-        return codec.time_back(codec.now())
-
     def __getitem__(self, name: str) -> Handle:
         """One stream. Raises UnknownStreamError, a LookupError, where none stands."""
         if name not in self:
@@ -127,11 +109,10 @@ class RemoteStore(Questions):
                kind: str | None = None, overflow: object | None = None,
                integrate: str | None = None, rule: str | None = None) -> Stored:
         """Makes a stream, as `Store.create` does."""
-        made = self._ask(remote.create({
-            "name": name, "target": target if isinstance(target, str) else " ".join(map(str, target)),
-            "within": within, "scale": scale, "time": time, "since": since, "unit": unit, "labels": labels,
-            "rounding": rounding, "exist_ok": exist_ok, "kind": kind, "overflow": overflow,
-            "integrate": integrate, "rule": rule}))
+        made = self._ask(remote.create(
+            name, target, within=within, scale=scale, time=time, since=since, unit=unit, labels=labels,
+            rounding=rounding, exist_ok=exist_ok, kind=kind, overflow=overflow, integrate=integrate,
+            rule=rule))
         self.refresh()
         return made
 

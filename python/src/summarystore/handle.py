@@ -6,7 +6,7 @@ import datetime
 import time as clock
 from collections.abc import Iterator, Mapping, Sequence
 from contextlib import AbstractContextManager
-from typing import TYPE_CHECKING
+from typing import TYPE_CHECKING, Generic, Protocol, TypeVar
 
 from .description import Description
 from .interval import Interval, Presence
@@ -23,10 +23,27 @@ if TYPE_CHECKING:
 LOOK = 0.5
 
 
-class Handle:
-    """A stream of a store, as `store["home/hall"]`."""
+class AnyStore(Protocol):
+    """A store, whichever way it is asked."""
 
-    def __init__(self, store: Store | RemoteStore, name: str) -> None:
+    @property
+    def path(self) -> str:
+        """Where it is."""
+
+    def description(self, name: str) -> Description | None:
+        """How a stream is read."""
+
+    def now(self, name: str) -> Time:
+        """The present time of a stream."""
+
+
+S = TypeVar("S", bound=AnyStore)
+
+
+class Named(Generic[S]):
+    """A stream of a store by its name, and what of it isn't asked of the program."""
+
+    def __init__(self, store: S, name: str) -> None:
         self.store = store
         self.name = name
 
@@ -41,6 +58,16 @@ class Handle:
     def now(self) -> Time:
         """The present time of it."""
         return self.store.now(self.name)
+
+
+if TYPE_CHECKING:
+    Base = Named[Store | RemoteStore]
+else:
+    Base = Named
+
+
+class Handle(Base):
+    """A stream of a store, as `store["home/hall"]`."""
 
     def append(self, time: object = UNSAID, value: object = UNSAID) -> Stored | None:
         """As `Store.append`. Over a service nothing is answered."""

@@ -19,10 +19,10 @@ from .description import Description
 from .errors import DescriptionError, LateError, ServiceError, StreamNameError, UnknownStreamError
 from .frames import rows_of
 from .names import DescribedCodec
-from .namesfile import Described, entry_of
+from .namesfile import Described as Descriptions, entry_of
 from .pipeline import Appends
 from .present import UNSAID
-from .records import Stored, Window
+from .records import Stored, Time, Window
 from .sending import OnRefused, Row, Sending
 from .server import exactjson
 from .server.meaning import Meaning
@@ -136,11 +136,13 @@ def descriptions(names: RemoteNames) -> Ask[None]:
     return Ask("GET", "/api/descriptions", None, names.take)
 
 
-def create(words: Mapping[str, object]) -> Ask[Stored]:
+def create(name: str, target: str | Sequence[object], **words: object) -> Ask[Stored]:
     """Makes a stream."""
     def result(told: Body) -> Stored:
         return Stored(int(str(told["values"])), int(str(told["windows"])))
-    given = {key: str(word) if isinstance(word, datetime.date) else word for key, word in words.items()}
+    given: dict[str, object] = {
+        "name": name, "target": target if isinstance(target, str) else " ".join(map(str, target)),
+        **{key: str(word) if isinstance(word, datetime.date) else word for key, word in words.items()}}
     return Ask("POST", "/api/streams", _json(given), result)
 
 
@@ -257,7 +259,7 @@ class RemoteNames:
     def __init__(self, zone: str | datetime.tzinfo | None, look: Callable[[], None] | None = None) -> None:
         self._zone = zone_of(zone)
         self._look = look
-        self._described: Described = {}
+        self._described: Descriptions = {}
         self._names: dict[str, str] = {}
         self._codecs: dict[str, DescribedCodec] = {}
 
@@ -318,6 +320,29 @@ class RemoteNames:
 
     def keep_joins(self, name: str, joins: Sequence[tuple[int, int]]) -> None:
         """The service joins."""
+
+
+class Described:
+    """How the streams of a service are read, as far as it told."""
+
+    path: str
+    _names: RemoteNames
+
+    def __repr__(self) -> str:
+        return f"<summarystore.RemoteStore {self.path}>"
+
+    def codec(self, name: str) -> Codec:
+        """How a stream's times and values become whole numbers, and back."""
+        return self._names.codec(name)
+
+    def description(self, name: str) -> Description | None:
+        """How a stream is read. None where it takes and gives whole numbers."""
+        return self.codec(name).description
+
+    def now(self, name: str) -> Time:
+        """The present time of a described stream."""
+        codec = self.codec(name)
+        return codec.time_back(codec.now())
 
 
 def windows_path(name: str) -> str:

@@ -17,6 +17,7 @@ SECONDS = re.compile(r"[+-]?[0-9]{1,19}(?:\.([0-9]{1,9}))?")
 # A plus sign in an address that wasn't escaped has become a blank.
 LOST_PLUS = re.compile(r"([0-9]{4}-?[0-9]{2}-?[0-9]{2}[T ][0-9:.]+) ([0-9]{2}:?[0-9]{2})")
 LONGEST = 64
+MOST_SECONDS = 10**19
 MEANT = {"avg": "mean", "average": "mean", "total": "sum", "minimum": "min", "maximum": "max",
          "number": "count"}
 """Words for kinds of answers that others have."""
@@ -44,6 +45,8 @@ def no_kind(given: str, kinds: Sequence[str]) -> ApiError:
 
 def nanoseconds(given: object, key: str, zone: datetime.tzinfo | None = None) -> int:
     """A time: seconds since 1970, ISO 8601 with a zone or in that one, `now`, or `now-1h`."""
+    if type(given) is int and abs(given) < MOST_SECONDS:
+        return given * 10**9
     if isinstance(given, (int, Decimal)) and not isinstance(given, bool):
         return _of_seconds(str(given) if isinstance(given, int) else _plain(given, key), key)
     if not isinstance(given, str):

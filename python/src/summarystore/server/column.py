@@ -12,7 +12,7 @@ from decimal import Decimal
 
 from .lanes import Incoming
 from .mapping import Route
-from .outcomes import Outcome
+from .outcomes import STORED, Outcome
 
 FEW = 4
 """So many readings of one name are worth to be taken together."""
@@ -65,7 +65,8 @@ def columns_of(readings: Iterable[Incoming]) -> Sequence[Column]:
     """Readings as columns."""
     found: dict[tuple[str, tuple[tuple[str, str], ...], str], Column] = {}
     for place, reading in enumerate(readings):
-        key = reading.name, tuple(sorted(reading.tags.items())), reading.source
+        tags = reading.tags
+        key = reading.name, tuple(sorted(tags.items())) if tags else (), reading.source
         column = found.get(key)
         if column is None:
             column = found[key] = Column(reading.name, reading.tags, reading.source)
@@ -73,6 +74,11 @@ def columns_of(readings: Iterable[Incoming]) -> Sequence[Column]:
         column.values.append(reading.value)
         column.places.append(place)
     return list(found.values())
+
+
+def are_stored(found: Sequence[Sequence[Outcome]]) -> bool:
+    """Whether all readings of all columns are stored."""
+    return all(each.count(STORED) == len(each) for each in found)
 
 
 def in_order(columns: Sequence[Column], found: Sequence[Sequence[Outcome]]) -> Sequence[Outcome]:

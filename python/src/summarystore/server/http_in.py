@@ -12,12 +12,11 @@ from . import asked, exactjson, linebody
 from .answers import error_answer, json_answer
 from .app import Service
 from .bodies import body_of, text_of
-from .column import columns_of, in_order
+from .column import are_stored, columns_of, in_order
 from .endpoints import Access, ApiError, Endpoint
 from .intake import Incoming, Outcome, Result
 from .linebody import Body
 from .lineprotocol import PRECISIONS, Mistake
-from .outcomes import STORED
 from .meaning import seconds_of
 from .outcomes import TOO_FAR, Word
 
@@ -53,7 +52,7 @@ class HttpIn:
         if len(body.lines) + len(body.mistakes) > limits.lines:
             raise ApiError(413, "too_many", f"a body has at most {limits.lines} readings")
         columns = await self._service.intake.append_columns(body.columns)
-        if not body.mistakes and all(each.count(STORED) == len(each) for each in columns):
+        if not body.mistakes and are_stored(columns):
             return web.Response(status=204, headers={"X-Influxdb-Version": VERSION})
         lines, outcomes = body.lines, in_order(body.columns, columns)
         words = 0
@@ -80,7 +79,10 @@ class HttpIn:
             raise ApiError(413, "too_many", f"a body has at most {limits.lines} readings")
         readings = [_reading(row, at) for at, row in enumerate(rows)]
         columns = columns_of(readings)
-        return _appended(in_order(columns, await self._service.intake.append_columns(columns)))
+        found = await self._service.intake.append_columns(columns)
+        if are_stored(found):
+            return json_answer({"stored": len(readings), "there": 0, "refused": []})
+        return _appended(in_order(columns, found))
 
     async def landmark(self, request: web.Request) -> web.StreamResponse:
         """`POST /api/landmark`: opens one, or closes the one that is open."""

@@ -133,6 +133,7 @@ def document() -> Json:
         "Stream": _object({
             "name": TEXT, "unit": {"type": ["string", "null"]}, "kind": {"enum": ["counter", "gauge", None]},
             "shows": {"enum": [*SHOWS, None]}, "words": {"type": "object"},
+            "integrate": {"type": ["string", "null"]},
             "labels": {"type": "object"}, "target": TEXT,
             "within": {"type": ["integer", "null"]}, "within_seconds": NUMBER, "values": COUNT,
             "windows": COUNT, "landmarks": COUNT,

@@ -14,7 +14,7 @@ from . import http_in
 from .answers import error_answer
 from .app import Service
 from .bodies import body_of
-from .column import columns_of, in_order
+from .column import are_stored, columns_of, in_order
 from .endpoints import Access, ApiError, Endpoint
 from .intake import Incoming, Outcome, Result
 from .prometheus_message import MessageError, Sample, samples, unpacked
@@ -49,7 +49,8 @@ class PrometheusIn:
         if ended:
             self._service.counters.add("readings", SOURCE, Result.IGNORED.value, count=ended)
         columns = columns_of(map(_reading, kept))
-        return _written(kept, in_order(columns, await self._service.intake.append_columns(columns)))
+        stored = await self._service.intake.append_columns(columns)
+        return web.Response(status=204) if are_stored(stored) else _written(kept, in_order(columns, stored))
 
 
 def _reading(sample: Sample) -> Incoming:
