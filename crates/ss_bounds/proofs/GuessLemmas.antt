@@ -17,7 +17,7 @@ use Rattle.ss_bounds.proofs.TruthLemmas.{sum_interval-at}
 use Rattle.ss_bounds.proofs.AttainedLemmas.{greatest_count-few}
 
 -- the quotient and the remainder
-div_euclid-rem : (o : ℤ) (u : ℕ) → 0 < u
+pub div_euclid-rem : (o : ℤ) (u : ℕ) → 0 < u
     → (((pos u *ℤ int_div_euclid o (pos u)) +ℤ pos (unsigned_abs (int_rem_euclid o (pos u)))) ≡ o) × (unsigned_abs (int_rem_euclid o (pos u)) < u)
 div_euclid-rem (pos a) u some = (omega (arith, ints), omega (arith, ints))
 div_euclid-rem (negsuc a) u some = (omega (arith, ints), omega (arith, ints))

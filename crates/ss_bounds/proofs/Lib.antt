@@ -17,3 +17,12 @@ pub mod RatioLemmas
 pub mod MixedLemmas
 pub mod Rows
 pub mod GuessRows
+pub mod FractionLemmas
+pub mod LowestLemmas
+pub mod BendLemmas
+pub mod BestLemmas
+pub mod CornerLemmas
+pub mod MeanTruthLemmas
+pub mod MeanRows
+pub mod MeanTruthRows
+pub mod MeanWidthLemmas

@@ -1,5 +1,5 @@
 -- Worked rows, each computed.
-use Rattle.std.specs.Prelude.{◌≡◌, ◌^◌, ℕ, true, not, ℤ, pos, negsuc, [], ◌∷◌, map, None, Some}
+use Rattle.std.specs.Prelude.{◌≡◌, ℕ, true, not, ℤ, pos, negsuc, [], ◌∷◌, map, None, Some}
 use Rattle.std.proofs.Common.{arith, inl, inr, lit≤, refl}
 use Rattle.std.proofs.lemmas.Int.{ints}
 use Rattle.ss_summary.specs.Points.{New}

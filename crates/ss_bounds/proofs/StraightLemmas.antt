@@ -86,7 +86,7 @@ module _ (f : ℕ → ℤ) where
         let same : x + suc d ≡ x + d + 1 = omega arith in
         rw same (omega (arith, ints))
 
-    IsStraight-apart : (x y : ℕ) → a ≤ x → x ≤ y → y ≤ b → f y ≡ (f x +ℤ (pos (y - x) *ℤ step))
+    pub IsStraight-apart : (x y : ℕ) → a ≤ x → x ≤ y → y ≤ b → f y ≡ (f x +ℤ (pos (y - x) *ℤ step))
     IsStraight-apart x y from more to =
         let same : x + (y - x) ≡ y = omega arith in
         ap f (sym same) ∙ IsStraight-plus x (y - x) from (omega arith)

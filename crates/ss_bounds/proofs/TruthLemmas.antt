@@ -5,6 +5,7 @@ use Rattle.std.proofs.Common.{ap, arith, refl, sym, ◌∙◌}
 use Rattle.std.proofs.lemmas.Int.{ints, clamps}
 use Rattle.ss_summary.specs.Points.{Point}
 use Rattle.ss_bounds.specs.Split.{SplitFigures, least_count, greatest_count, low_sum, high_sum, sum_interval}
+use Rattle.ss_bounds.specs.MeanTruth.{MayHave}
 use Rattle.ss_bounds.specs.Times.{lies_in}
 use Rattle.ss_bounds.specs.Truth.{total, values_alone, asked, RiseFree, AllBetween, AreSplit, MayLieThere}
 use Rattle.ss_bounds.proofs.TimeLemmas.{asked-counts}
@@ -60,19 +61,16 @@ sum_interval-at s x low high =
     (rw place at at, rw place at up)
 
 -- values inside the range and outside it, and the figures that they make together
-sum-within : (s : SplitFigures) (inside outside : List ℤ) → s.count ≡ length inside + length outside
+sum-at : (s : SplitFigures) (inside outside : List ℤ) → s.count ≡ length inside + length outside
     → s.sum ≡ (total inside +ℤ total outside) → AllBetween s.min s.max inside → AllBetween s.min s.max outside
-    → least_count s ≤ length inside → length inside ≤ greatest_count s
-    → ((sum_interval s).0 ≤ℤ total inside) × (total inside ≤ℤ (sum_interval s).1)
-sum-within s inside outside count sum in_between out_between fewest most =
+    → (low_sum s (length inside) ≤ℤ total inside) × (total inside ≤ℤ high_sum s (length inside))
+sum-at s inside outside count sum in_between out_between =
     let others : s.count - length inside ≡ length outside = omega arith in
-    let at = sum_interval-at s (length inside) fewest most in
-    let at = rw others at at in
     let above = total-above s.min s.max inside in_between in
     let below = total-below s.min s.max inside in_between in
     let out_above = total-above s.min s.max outside out_between in
     let out_below = total-below s.min s.max outside out_between in
-    (omega (arith, ints, clamps, at.0), omega (arith, ints, clamps, at.1))
+    (rw others (omega (arith, ints, clamps)), rw others (omega (arith, ints, clamps)))
 
 module _ (free : ℕ → Bool) (from to : ℕ) (p : Point) (ps : List Point) (s : SplitFigures) (split : AreSplit free from to p ps s) where
   pub asked-MayLieThere : MayLieThere s (asked from to (p ∷ ps))
@@ -84,12 +82,19 @@ module _ (free : ℕ → Bool) (from to : ℕ) (p : Point) (ps : List Point) (s 
         between = between-filter free s.min s.max (λ v. lies_in from to v.0) 0 (p ∷ ps) split.rising;
       }
 
-  pub asked-sum : ((sum_interval s).0 ≤ℤ total (asked from to (p ∷ ps))) × (total (asked from to (p ∷ ps)) ≤ℤ (sum_interval s).1)
-  asked-sum =
+  pub asked-MayHave : MayHave s (record { over = total (asked from to (p ∷ ps)); under = length (asked from to (p ∷ ps)) })
+  asked-MayHave =
       let values = asked-MayLieThere in
       let parts = parted (λ v. lies_in from to v.0) (p ∷ ps) in
       let count = ap (λ (f : SplitFigures). f.count) split.is in
       let sum = ap (λ (f : SplitFigures). f.sum) split.is in
-      sum-within s (asked from to (p ∷ ps)) (values_alone (filter (λ v. not (lies_in from to v.0)) (p ∷ ps)))
+      let sums = sum-at s (asked from to (p ∷ ps)) (values_alone (filter (λ v. not (lies_in from to v.0)) (p ∷ ps)))
       (count ∙ sym parts.0) (sum ∙ sym parts.1) values.between
-      (between-filter free s.min s.max (λ v. not (lies_in from to v.0)) 0 (p ∷ ps) split.rising) values.fewest values.most
+      (between-filter free s.min s.max (λ v. not (lies_in from to v.0)) 0 (p ∷ ps) split.rising) in
+      record { fewest = values.fewest; most = values.most; low = sums.0; high = sums.1 }
+
+  pub asked-sum : ((sum_interval s).0 ≤ℤ total (asked from to (p ∷ ps))) × (total (asked from to (p ∷ ps)) ≤ℤ (sum_interval s).1)
+  asked-sum =
+      let values = asked-MayHave in
+      let at = sum_interval-at s (length (asked from to (p ∷ ps))) values.fewest values.most in
+      (omega (arith, ints, at.0, values.low), omega (arith, ints, at.1, values.high))

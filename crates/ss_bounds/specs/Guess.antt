@@ -2,12 +2,8 @@
 -- spread evenly over its free times, and each to be the mean of all of them.
 use Rattle.std.specs.Prelude.{ℕ, ◌+◌, ◌-◌, ◌*◌, ◌%◌, max, Bool, ◌&&◌, ◌||◌, ◌==◌, nat_lt, if◌then◌else◌, ℤ, pos, ◌+ℤ◌, ◌*ℤ◌, unsigned_abs, List, [], ◌∷◌, map}
 use Rattle.std.specs.Int.{int_div_euclid, int_rem_euclid}
+pub use Rattle.ss_bounds.specs.declared.fraction.Fraction.{Fraction}
 use Rattle.ss_bounds.specs.Split.{SplitFigures, IsSplit}
-
--- a fraction: a whole number over another one, which isn't 0
-pub record Fraction : Type 0 where
-  pub over : ℤ
-  pub under : ℕ
 
 -- a whole number as a fraction, and the sum of two fractions and of several
 abbrev pub whole : ℤ → Fraction

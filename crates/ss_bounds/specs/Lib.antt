@@ -9,3 +9,7 @@ pub mod Truth
 pub mod Guess
 pub mod Mixed
 pub mod Several
+pub mod Fractions
+pub mod Means
+pub mod Corners
+pub mod MeanTruth

@@ -3,13 +3,20 @@
 
 mod attained;
 mod bounds;
+mod corners;
 mod extreme;
 mod extremes;
+mod fraction;
 mod guess;
 mod laws;
 mod lines;
+mod lowest;
+mod mean;
+mod mean_laws;
+mod means;
 mod mixed;
 mod ratio;
+mod side;
 mod split;
 mod spread;
 
@@ -17,9 +24,15 @@ pub use attained::{greatest_sum_at, least_sum_at};
 pub use bounds::{count_bounds, sum_bounds};
 pub use extreme::Extreme;
 pub use extremes::{greater, lesser, max_bounds, min_bounds};
+pub use fraction::Fraction;
 pub use guess::{count_guess, sum_guess};
 pub use laws::{
     ends_of_sums_are_attained, extremes_hold_the_truth, free_times_are_parted, guesses_lie_between,
     several_hold_the_truth, split_windows_hold_the_truth, values_can_be_parted,
 };
+pub use mean::Mean;
+pub use mean_laws::{
+    ends_of_means_are_attained, means_are_no_wider_than_sums, means_hold_the_truth,
+};
+pub use means::mean_bounds;
 pub use split::Split;

@@ -1,7 +1,7 @@
 // The least sum that some values of a split window can have. For x values it is the greater of two straight lines: x times
 // the least value, and the sum of all without the greatest value for each of the others.
 ghost use Rattle.std.specs.Prelude.{◌≡◌, ◌≤◌};
-ghost use Rattle.ss_bounds.specs.Split.{low_sum};
+ghost use Rattle.ss_bounds.specs.Split.{high_sum, low_sum};
 ghost use Rattle.ss_bounds.specs.Lines.{AreTurns, IsCrossing, IsLastLeast, IsLeast, lower};
 ghost use Rattle.ss_bounds.specs.Attained.{IsFirstLeast};
 
@@ -42,7 +42,7 @@ pub fn last_least(split: Split, fewest: u64, most: u64) -> u64
 }
 
 // The numbers before and after the crossing point of the two lines, or the nearest from `fewest` to `most`.
-fn turns(split: Split, fewest: u64, most: u64) -> (u64, u64)
+pub fn turns(split: Split, fewest: u64, most: u64) -> (u64, u64)
     requires order { fewest ≤ most }
     requires all { most ≤ split.count }
     ensures { AreTurns split fewest most result }
@@ -67,13 +67,23 @@ fn lower(split: Split, x: u64, y: u64) -> u64
 }
 
 // The least sum of x values.
-fn low_sum(split: Split, x: u64) -> i128
+pub fn low_sum(split: Split, x: u64) -> i128
     requires { x ≤ split.count }
     ensures { result ≡ low_sum split x }
 {
     let alone = i128::from(x) * i128::from(split.min);
     let others = i128::from(split.count - x) * i128::from(split.max);
     alone.max(split.sum - others)
+}
+
+// The greatest sum of x values: that of all without the least of the others.
+pub fn high_sum(split: Split, x: u64) -> i128
+    requires { x ≤ split.count }
+    ensures { result ≡ high_sum split x }
+{
+    let count = split.count;
+    let sum = split.sum;
+    sum - low_sum(split, count - x)
 }
 
 // The whole number before the crossing point of the two lines, or 0 where the two are one.
