@@ -9,7 +9,7 @@ use Rattle.ss_bounds.specs.declared.side.Side.{Side}
 use Rattle.ss_bounds.specs.declared.side.Side.TheVariants.{Least, Greatest}
 use Rattle.ss_bounds.specs.Corners.{AreBends, AreCorners, IsSmall, sum_at}
 use Rattle.ss_bounds.specs.Lines.{AreTurns}
-use Rattle.ss_bounds.specs.Means.{taken}
+use Rattle.ss_bounds.specs.Means.{so_many}
 use Rattle.ss_bounds.specs.Split.{SplitFigures, IsSplit, low_sum, high_sum}
 use Rattle.ss_bounds.proofs.Held.{held, held-is, low_sum-fits, low_sum-small, sum-fits, sum-small}
 use Rattle.ss_bounds.proofs.LeastLemmas.{high_sum-rest}
@@ -71,7 +71,7 @@ sum_at-small Greatest s split x within =
     let all = sum-small s split in
     omega (arith, ints)
 
-pub IsSmall-taken : (side : Side) (s : SplitFigures) → IsSplit s → (x : ℕ) → x ≤ s.count → IsSmall (taken (sum_at side s) x)
+pub IsSmall-taken : (side : Side) (s : SplitFigures) → IsSplit s → (x : ℕ) → x ≤ s.count → IsSmall (so_many (sum_at side s) x)
 IsSmall-taken side s split x within = record { over = sum_at-small side s split x within; under = omega (arith, split.count_high) }
 
 -- as the code holds them
@@ -83,11 +83,11 @@ IsSmall-held side s split x within z same =
     subst (λ v. IsSmall (record { over = v; under = x })) (sym (held-is z (sum_at side s x) same fits)) (IsSmall-taken side s split x within)
 
 -- what is taken at the ends and at the bends are the corners
-taken-itself : (f : ℕ → ℤ) (x : ℕ) (v : Fraction) → v ≡ taken f x → v ≡ taken f v.under
-taken-itself f x v is = is ∙ ap (taken f) (sym (ap (λ (a : Fraction). a.under) is))
+taken-itself : (f : ℕ → ℤ) (x : ℕ) (v : Fraction) → v ≡ so_many f x → v ≡ so_many f v.under
+taken-itself f x v is = is ∙ ap (so_many f) (sym (ap (λ (a : Fraction). a.under) is))
 
-pub AreCorners-taken : (f : ℕ → ℤ) (a b x y : ℕ) (c : Corners) → a ≤ b → AreBends f a b x y → c.fewest ≡ taken f a
-    → c.some ≡ taken f (min (max a 1) b) → c.before ≡ taken f x → c.after ≡ taken f y → c.most ≡ taken f b → AreCorners f a b c
+pub AreCorners-taken : (f : ℕ → ℤ) (a b x y : ℕ) (c : Corners) → a ≤ b → AreBends f a b x y → c.fewest ≡ so_many f a
+    → c.some ≡ so_many f (min (max a 1) b) → c.before ≡ so_many f x → c.after ≡ so_many f y → c.most ≡ so_many f b → AreCorners f a b c
 AreCorners-taken f a b x y c order bends fewest some before after most =
     let left : x ≡ c.before.under = sym (ap (λ (v : Fraction). v.under) before) in
     let right : y ≡ c.after.under = sym (ap (λ (v : Fraction). v.under) after) in

@@ -7,7 +7,7 @@ use Rattle.std.proofs.lemmas.Int.{ints}
 use Rattle.ss_bounds.specs.declared.fraction.Fraction.{Fraction}
 use Rattle.ss_bounds.specs.Corners.{AreSame}
 use Rattle.ss_bounds.specs.Guess.{AreAllSplit}
-use Rattle.ss_bounds.specs.Means.{Reaches, better, best_of, best_mean, mean_of, taken, together}
+use Rattle.ss_bounds.specs.Means.{AddsUpTo, better, best_of, best_mean, mean_of, so_many, with_values}
 use Rattle.ss_bounds.specs.Split.{SplitFigures, least_count, greatest_count}
 use Rattle.ss_bounds.proofs.AttainedLemmas.{least_count-order}
 use Rattle.ss_bounds.proofs.FractionLemmas.{IsOrder}
@@ -15,14 +15,14 @@ use Rattle.ss_bounds.proofs.FractionLemmas.{IsOrder}
 pub fraction-is : (a b : Fraction) → a.over ≡ b.over → a.under ≡ b.under → a ≡ b
 fraction-is a b over under = ap₂ (λ (o : ℤ) (u : ℕ). record { over = o; under = u }) over under
 
-pub together-none : (a : Fraction) → a ≡ together a (record { over = pos 0; under = 0 })
-together-none a = fraction-is _ _ (omega (arith, ints)) (omega arith)
+pub with_values-none : (a : Fraction) → a ≡ with_values a (record { over = pos 0; under = 0 })
+with_values-none a = fraction-is _ _ (omega (arith, ints)) (omega arith)
 
-pub together-assoc : (a b c : Fraction) → together (together a b) c ≡ together a (together b c)
-together-assoc a b c = fraction-is _ _ (omega (arith, ints)) (omega arith)
+pub with_values-assoc : (a b c : Fraction) → with_values (with_values a b) c ≡ with_values a (with_values b c)
+with_values-assoc a b c = fraction-is _ _ (omega (arith, ints)) (omega arith)
 
-pub together-swapped : (a b c : Fraction) → together (together a b) c ≡ together (together a c) b
-together-swapped a b c = fraction-is _ _ (omega (arith, ints)) (omega arith)
+pub with_values-swapped : (a b c : Fraction) → with_values (with_values a b) c ≡ with_values (with_values a c) b
+with_values-swapped a b c = fraction-is _ _ (omega (arith, ints)) (omega arith)
 
 -- each window may have some number of values in the range
 abbrev pub AreOrdered : List SplitFigures → Type 0
@@ -154,14 +154,14 @@ module _ {test : Fraction → Fraction → Bool} {Better : Fraction → Fraction
       (best_of test f a n) (f (a + suc n)) (IsBest-best_of P f each a n) (each (a + suc n))
 
   pub IsBest-best_mean : (sum : SplitFigures → ℕ → ℤ) (known : Fraction) (splits : List SplitFigures) → AreOrdered splits
-      → IsBest (Reaches sum known splits) (best_mean test sum known splits)
+      → IsBest (AddsUpTo sum known splits) (best_mean test sum known splits)
   IsBest-best_mean sum known [] ordered = IsBest-mean_of known
   IsBest-best_mean sum known (s ∷ splits) ordered =
       let order_is = ordered.0 in
       let end : least_count s + (greatest_count s - least_count s) ≡ greatest_count s = omega arith in
-      subst (λ b. IsBest (FromTo (λ x. Reaches sum (together known (taken (sum s) x)) splits) (least_count s) b)
+      subst (λ b. IsBest (FromTo (λ x. AddsUpTo sum (with_values known (so_many (sum s) x)) splits) (least_count s) b)
       (best_mean test sum known (s ∷ splits))) end
-      (IsBest-best_of (λ x. Reaches sum (together known (taken (sum s) x)) splits)
-      (λ x. best_mean test sum (together known (taken (sum s) x)) splits)
-      (λ x. IsBest-best_mean sum (together known (taken (sum s) x)) splits ordered.1)
+      (IsBest-best_of (λ x. AddsUpTo sum (with_values known (so_many (sum s) x)) splits)
+      (λ x. best_mean test sum (with_values known (so_many (sum s) x)) splits)
+      (λ x. IsBest-best_mean sum (with_values known (so_many (sum s) x)) splits ordered.1)
       (least_count s) (greatest_count s - least_count s))

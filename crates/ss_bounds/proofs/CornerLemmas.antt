@@ -14,10 +14,11 @@ use Rattle.ss_bounds.specs.Corners.{AreCorners, AreCornersOf, AreSame, best_at, 
 use Rattle.ss_bounds.specs.Extremes.{listed}
 use Rattle.ss_bounds.specs.Fractions.{lowest}
 use Rattle.ss_bounds.specs.Lines.{IsStraight}
-use Rattle.ss_bounds.specs.Means.{Reaches, better, best_mean, mean_from, mean_interval, mean_of, taken, together}
+use Rattle.ss_bounds.specs.Means.{AddsUpTo, better, best_mean, mean_from, mean_interval, mean_of, so_many, with_values}
 use Rattle.ss_bounds.specs.Split.{SplitFigures, IsSplit, least_count, greatest_count}
 use Rattle.ss_bounds.proofs.AttainedLemmas.{least_count-order}
-use Rattle.ss_bounds.proofs.BestLemmas.{IsBest, IsBest-best_mean, IsBest-better, IsBest-mean_of, IsBest-more, IsBest-same, fraction-is, together-assoc, together-none, together-swapped}
+use Rattle.ss_bounds.proofs.BestLemmas.{IsBest, IsBest-best_mean, IsBest-better, IsBest-mean_of, IsBest-more, IsBest-same}
+use Rattle.ss_bounds.proofs.BestLemmas.{fraction-is, with_values-assoc, with_values-none, with_values-swapped}
 use Rattle.ss_bounds.proofs.FractionLemmas.{IsOrder, IsOrder-at_least, IsOrder-at_most, further}
 use Rattle.ss_bounds.proofs.LowestLemmas.{lowest-same}
 use Rattle.ss_bounds.proofs.StraightLemmas.{IsStraight-apart}
@@ -25,27 +26,27 @@ use Rattle.ss_bounds.proofs.StraightLemmas.{IsStraight-apart}
 -- what is reached from some known values is so from others, with the same ones besides
 record IsShift (sum : SplitFigures → ℕ → ℤ) (known : Fraction) (splits : List SplitFigures) (m : Fraction) : Type 0 where
   pub rest : Fraction
-  pub is : m ≡ together known rest
-  pub reaches : (k : Fraction) → Reaches sum k splits (together k rest)
+  pub is : m ≡ with_values known rest
+  pub reaches : (k : Fraction) → AddsUpTo sum k splits (with_values k rest)
 
-Reaches-shift : (sum : SplitFigures → ℕ → ℤ) (known : Fraction) (splits : List SplitFigures) (m : Fraction)
-    → Reaches sum known splits m → IsShift sum known splits m
-Reaches-shift sum known [] m is = record {
+AddsUpTo-shift : (sum : SplitFigures → ℕ → ℤ) (known : Fraction) (splits : List SplitFigures) (m : Fraction)
+    → AddsUpTo sum known splits m → IsShift sum known splits m
+AddsUpTo-shift sum known [] m is = record {
   rest = record { over = pos 0; under = 0 };
-  is = sym is ∙ together-none known;
-  reaches = λ k. together-none k;
+  is = sym is ∙ with_values-none known;
+  reaches = λ k. with_values-none k;
 }
-Reaches-shift sum known (s ∷ splits) m (x, from, to, more) =
-    let next = Reaches-shift sum (together known (taken (sum s) x)) splits m more in
+AddsUpTo-shift sum known (s ∷ splits) m (x, from, to, more) =
+    let next = AddsUpTo-shift sum (with_values known (so_many (sum s) x)) splits m more in
     record {
-      rest = together (taken (sum s) x) next.rest;
-      is = next.is ∙ together-assoc known (taken (sum s) x) next.rest;
+      rest = with_values (so_many (sum s) x) next.rest;
+      is = next.is ∙ with_values-assoc known (so_many (sum s) x) next.rest;
       reaches = λ k. (
         x,
         from,
         to,
-        subst (λ a. Reaches sum (together k (taken (sum s) x)) splits a) (together-assoc k (taken (sum s) x) next.rest)
-            (next.reaches (together k (taken (sum s) x))),
+        subst (λ a. AddsUpTo sum (with_values k (so_many (sum s) x)) splits a) (with_values-assoc k (so_many (sum s) x) next.rest)
+            (next.reaches (with_values k (so_many (sum s) x))),
       );
     }
 
@@ -58,32 +59,32 @@ module _ {test : Fraction → Fraction → Bool} {Better : Fraction → Fraction
 
   -- over a straight stretch one of its ends is as good as what lies between
   stretch-ends : (f : ℕ → ℤ) (t : ℤ) (l h x : ℕ) → IsStraight f t l h → l ≤ x → x ≤ h → (w : Fraction)
-      → Better (together w (taken f l)) (together w (taken f x)) ⊎ Better (together w (taken f h)) (together w (taken f x))
+      → Better (with_values w (so_many f l)) (with_values w (so_many f x)) ⊎ Better (with_values w (so_many f h)) (with_values w (so_many f x))
   stretch-ends f t l h x straight from to w =
       let at_x = IsStraight-apart f t l h straight l x (omega arith) from to in
       let at_h = IsStraight-apart f t l h straight x h from to (omega arith) in
-      let here : further (together w (taken f l)) (x - l) t ≡ together w (taken f x) = fraction-is _ _ (omega (arith, ints)) (omega arith) in
-      let there : further (further (together w (taken f l)) (x - l) t) (h - x) t ≡ together w (taken f h) =
+      let here : further (with_values w (so_many f l)) (x - l) t ≡ with_values w (so_many f x) = fraction-is _ _ (omega (arith, ints)) (omega arith) in
+      let there : further (further (with_values w (so_many f l)) (x - l) t) (h - x) t ≡ with_values w (so_many f h) =
       fraction-is _ _ (omega (arith, ints)) (omega arith) in
-      elim (order.ends (together w (taken f l)) (x - l) (h - x) t) [
-        | inl first ↦ inl (subst (λ v. Better (together w (taken f l)) v) here first)
-        | inr last ↦ inr (subst (λ v. Better v (together w (taken f x))) there
-            (subst (λ v. Better (further (further (together w (taken f l)) (x - l) t) (h - x) t) v) here last))
+      elim (order.ends (with_values w (so_many f l)) (x - l) (h - x) t) [
+        | inl first ↦ inl (subst (λ v. Better (with_values w (so_many f l)) v) here first)
+        | inr last ↦ inr (subst (λ v. Better v (with_values w (so_many f x))) there
+            (subst (λ v. Better (further (further (with_values w (so_many f l)) (x - l) t) (h - x) t) v) here last))
       ]
 
   module _ (f : ℕ → ℤ) (a b : ℕ) (c : Corners) (is : AreCorners f a b c) where
     -- beside some known values w a corner is as good as any number x of values
     module _ (w : Fraction) (x : ℕ) (from : a ≤ x) (to : x ≤ b) (more : 0 < w.under + x) where
       abbrev IsAbove : Fraction → Type 0
-      IsAbove v = (0 < w.under + v.under) × Better (together w v) (together w (taken f x))
+      IsAbove v = (0 < w.under + v.under) × Better (with_values w v) (with_values w (so_many f x))
 
-      above-at : (v : Fraction) (y : ℕ) → v ≡ taken f y → 0 < w.under + y → Better (together w (taken f y)) (together w (taken f x)) → IsAbove v
+      above-at : (v : Fraction) (y : ℕ) → v ≡ so_many f y → 0 < w.under + y → Better (with_values w (so_many f y)) (with_values w (so_many f x)) → IsAbove v
       above-at v y same some above = subst IsAbove (sym same) (some, above)
 
-      above-some : w.under + a ≡ 0 → Better (together w (taken f 1)) (together w (taken f x)) → IsAbove c.some
+      above-some : w.under + a ≡ 0 → Better (with_values w (so_many f 1)) (with_values w (so_many f x)) → IsAbove c.some
       above-some none above =
           let one : 1 ≡ min (max a 1) b = omega arith in
-          above-at c.some (min (max a 1) b) is.some (omega arith) (subst (λ y. Better (together w (taken f y)) (together w (taken f x))) one above)
+          above-at c.some (min (max a 1) b) is.some (omega arith) (subst (λ y. Better (with_values w (so_many f y)) (with_values w (so_many f x))) one above)
 
       above-before : x ≤ c.before.under → AtCorners IsAbove c
       above-before early =
@@ -140,15 +141,17 @@ module _ {test : Fraction → Fraction → Bool} {Better : Fraction → Fraction
   module _ (sum : SplitFigures → ℕ → ℤ) (known : Fraction) (s : SplitFigures) (splits : List SplitFigures) (c : Corners)
       (is : AreCorners (sum s) (least_count s) (greatest_count s) c) where
     abbrev AtReached : Fraction → Type 0
-    AtReached m = AtCorners (λ v. Reaches sum (together known v) splits m) c
+    AtReached m = AtCorners (λ v. AddsUpTo sum (with_values known v) splits m) c
 
-    reached-at : (m v : Fraction) (y : ℕ) → v ≡ taken (sum s) y → least_count s ≤ y → y ≤ greatest_count s
-        → Reaches sum (together known v) splits m → Reaches sum known (s ∷ splits) m
-    reached-at m v y same from to reached = (y, from, to, subst (λ u. Reaches sum (together known u) splits m) same reached)
+    reached-at : (m v : Fraction) (y : ℕ) → v ≡ so_many (sum s) y → least_count s ≤ y → y ≤ greatest_count s
+        → AddsUpTo sum (with_values known v) splits m → AddsUpTo sum known (s ∷ splits) m
+    reached-at m v y same from to reached = (y, from, to, subst (λ u. AddsUpTo sum (with_values known u) splits m) same reached)
 
-    AtReached-Reaches : (m : Fraction) → AtReached m → Reaches sum known (s ∷ splits) m
+    AtReached-Reaches : (m : Fraction) → AtReached m → AddsUpTo sum known (s ∷ splits) m
     AtReached-Reaches m (inl (inl (inl at))) = reached-at m c.fewest (least_count s) is.fewest (omega arith) is.order at
-    AtReached-Reaches m (inl (inl (inr at))) = let order_is = is.order in reached-at m c.some (min (max (least_count s) 1) (greatest_count s)) is.some (omega arith) (omega arith) at
+    AtReached-Reaches m (inl (inl (inr at))) =
+        let order_is = is.order in
+        reached-at m c.some (min (max (least_count s) 1) (greatest_count s)) is.some (omega arith) (omega arith) at
     AtReached-Reaches m (inl (inr (inl at))) =
         let bends = is.bends in reached-at m c.before c.before.under is.before bends.from (omega (arith, bends.order, bends.to)) at
     AtReached-Reaches m (inl (inr (inr at))) =
@@ -157,41 +160,42 @@ module _ {test : Fraction → Fraction → Bool} {Better : Fraction → Fraction
 
     -- each choice is no better than one at a corner
     module _ (m : Fraction) (x : ℕ) (from : least_count s ≤ x) (to : x ≤ greatest_count s)
-        (shift : IsShift sum (together known (taken (sum s) x)) splits m) (more : 0 < m.under) where
+        (shift : IsShift sum (with_values known (so_many (sum s) x)) splits m) (more : 0 < m.under) where
       abbrev Covered : Type 0
       Covered = (u : Fraction) × AtReached u × (0 < u.under) × Better u m
 
-      moved : m ≡ together (together known shift.rest) (taken (sum s) x)
-      moved = shift.is ∙ together-swapped known (taken (sum s) x) shift.rest
+      moved : m ≡ with_values (with_values known shift.rest) (so_many (sum s) x)
+      moved = shift.is ∙ with_values-swapped known (so_many (sum s) x) shift.rest
 
-      some-there : 0 < (together known shift.rest).under + x
+      some-there : 0 < (with_values known shift.rest).under + x
       some-there = let under = ap (λ (f : Fraction). f.under) moved in omega arith
 
-      covered : (v : Fraction) → AtReached (together (together known v) shift.rest)
-          → (0 < known.under + shift.rest.under + v.under) × Better (together (together known shift.rest) v) (together (together known shift.rest) (taken (sum s) x))
+      covered : (v : Fraction) → AtReached (with_values (with_values known v) shift.rest)
+          → (0 < known.under + shift.rest.under + v.under)
+          × Better (with_values (with_values known shift.rest) v) (with_values (with_values known shift.rest) (so_many (sum s) x))
           → Covered
       covered v reached above = (
-        together (together known v) shift.rest,
+        with_values (with_values known v) shift.rest,
         reached,
         omega (arith, above.0),
-        subst (λ z. Better z m) (sym (together-swapped known v shift.rest))
-            (subst (λ z. Better (together (together known shift.rest) v) z) (sym moved) above.1),
+        subst (λ z. Better z m) (sym (with_values-swapped known v shift.rest))
+            (subst (λ z. Better (with_values (with_values known shift.rest) v) z) (sym moved) above.1),
       )
 
       corner-covered : Covered
-      corner-covered = elim (corner-above (sum s) (least_count s) (greatest_count s) c is (together known shift.rest) x from to some-there) [
-        | inl (inl (inl above)) ↦ covered c.fewest (inl (inl (inl (shift.reaches (together known c.fewest))))) above
-        | inl (inl (inr above)) ↦ covered c.some (inl (inl (inr (shift.reaches (together known c.some))))) above
-        | inl (inr (inl above)) ↦ covered c.before (inl (inr (inl (shift.reaches (together known c.before))))) above
-        | inl (inr (inr above)) ↦ covered c.after (inl (inr (inr (shift.reaches (together known c.after))))) above
-        | inr above ↦ covered c.most (inr (shift.reaches (together known c.most))) above
+      corner-covered = elim (corner-above (sum s) (least_count s) (greatest_count s) c is (with_values known shift.rest) x from to some-there) [
+        | inl (inl (inl above)) ↦ covered c.fewest (inl (inl (inl (shift.reaches (with_values known c.fewest))))) above
+        | inl (inl (inr above)) ↦ covered c.some (inl (inl (inr (shift.reaches (with_values known c.some))))) above
+        | inl (inr (inl above)) ↦ covered c.before (inl (inr (inl (shift.reaches (with_values known c.before))))) above
+        | inl (inr (inr above)) ↦ covered c.after (inl (inr (inr (shift.reaches (with_values known c.after))))) above
+        | inr above ↦ covered c.most (inr (shift.reaches (with_values known c.most))) above
       ]
 
-    IsBest-corners : (f : Fraction → Option Fraction) → ((v : Fraction) → IsBest order (Reaches sum (together known v) splits) (f v))
-        → IsBest order (Reaches sum known (s ∷ splits)) (best_at test f c)
-    IsBest-corners f each = IsBest-more order AtReached (Reaches sum known (s ∷ splits)) AtReached-Reaches
-        (λ m (x, from, to, reached) more. corner-covered m x from to (Reaches-shift sum (together known (taken (sum s) x)) splits m reached) more)
-        (best_at test f c) (IsBest-best_at (λ v. Reaches sum (together known v) splits) f each c)
+    IsBest-corners : (f : Fraction → Option Fraction) → ((v : Fraction) → IsBest order (AddsUpTo sum (with_values known v) splits) (f v))
+        → IsBest order (AddsUpTo sum known (s ∷ splits)) (best_at test f c)
+    IsBest-corners f each = IsBest-more order AtReached (AddsUpTo sum known (s ∷ splits)) AtReached-Reaches
+        (λ m (x, from, to, reached) more. corner-covered m x from to (AddsUpTo-shift sum (with_values known (so_many (sum s) x)) splits m reached) more)
+        (best_at test f c) (IsBest-best_at (λ v. AddsUpTo sum (with_values known v) splits) f each c)
 
   -- ---- what the code finds is the best mean
 
@@ -200,27 +204,27 @@ module _ {test : Fraction → Fraction → Bool} {Better : Fraction → Fraction
 
   -- the best mean at the corners of one window, and at those of two
   abbrev pub at_one : Fraction → Corners → Option Fraction
-  at_one known c = best_at test (λ v. mean_of (together known v)) c
+  at_one known c = best_at test (λ v. mean_of (with_values known v)) c
 
   abbrev pub at_two : Fraction → Corners → Corners → Option Fraction
-  at_two known c d = best_at test (λ v. best_at test (λ w. mean_of (together (together known v) w)) d) c
+  at_two known c d = best_at test (λ v. best_at test (λ w. mean_of (with_values (with_values known v) w)) d) c
 
   pub one-found : (sum : SplitFigures → ℕ → ℤ) (known : Fraction) (s : SplitFigures) (c : Corners) → IsSplit s
       → AreCorners (sum s) (least_count s) (greatest_count s) c → AreSame (best_mean test sum known (s ∷ [])) (at_one known c)
   one-found sum known s c split is =
-      IsBest-same order (Reaches sum known (s ∷ [])) (best_mean test sum known (s ∷ [])) (at_one known c)
+      IsBest-same order (AddsUpTo sum known (s ∷ [])) (best_mean test sum known (s ∷ [])) (at_one known c)
       (IsBest-best_mean order sum known (s ∷ []) (least_count-order s split, tt))
-      (IsBest-corners sum known s [] c is (λ v. mean_of (together known v)) (λ v. IsBest-mean_of order (together known v)))
+      (IsBest-corners sum known s [] c is (λ v. mean_of (with_values known v)) (λ v. IsBest-mean_of order (with_values known v)))
 
   pub two-found : (sum : SplitFigures → ℕ → ℤ) (known : Fraction) (s t : SplitFigures) (c d : Corners) → IsSplit s → IsSplit t
       → AreCorners (sum s) (least_count s) (greatest_count s) c → AreCorners (sum t) (least_count t) (greatest_count t) d
       → AreSame (best_mean test sum known (s ∷ t ∷ [])) (at_two known c d)
   two-found sum known s t c d split other is there =
-      IsBest-same order (Reaches sum known (s ∷ t ∷ [])) (best_mean test sum known (s ∷ t ∷ [])) (at_two known c d)
+      IsBest-same order (AddsUpTo sum known (s ∷ t ∷ [])) (best_mean test sum known (s ∷ t ∷ [])) (at_two known c d)
       (IsBest-best_mean order sum known (s ∷ t ∷ []) (least_count-order s split, (least_count-order t other, tt)))
-      (IsBest-corners sum known s (t ∷ []) c is (λ v. at_one (together known v) d)
-      (λ v. IsBest-corners sum (together known v) t [] d there (λ w. mean_of (together (together known v) w))
-      (λ w. IsBest-mean_of order (together (together known v) w))))
+      (IsBest-corners sum known s (t ∷ []) c is (λ v. at_one (with_values known v) d)
+      (λ v. IsBest-corners sum (with_values known v) t [] d there (λ w. mean_of (with_values (with_values known v) w))
+      (λ w. IsBest-mean_of order (with_values (with_values known v) w))))
 
 -- one number has one fraction in lowest terms
 pub AreSame-lowest : (r t : Option Fraction) → AreSame r t → option_map lowest r ≡ option_map lowest t

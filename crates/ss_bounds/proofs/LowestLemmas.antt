@@ -1,5 +1,6 @@
 -- The fraction of a number that is in lowest terms: there is one alone, the definition gives it, and so does the code.
-use Rattle.std.specs.Prelude.{◌≡◌, ℕ, zero, suc, ◌+◌, ◌-◌, ◌*◌, ◌/◌, ◌%◌, ◌<◌, ◌≤◌, Bool, true, false, if◌then◌else◌, ℤ, pos, ◌+ℤ◌, ◌-ℤ◌, ◌*ℤ◌, FitsSigned, unsigned_abs}
+use Rattle.std.specs.Prelude.{◌≡◌, ℕ, zero, suc, ◌+◌, ◌-◌, ◌*◌, ◌/◌, ◌%◌, ◌<◌, ◌≤◌, Bool, true, false, if◌then◌else◌}
+use Rattle.std.specs.Prelude.{ℤ, pos, ◌+ℤ◌, ◌-ℤ◌, ◌*ℤ◌, FitsSigned, unsigned_abs}
 use Rattle.std.specs.Int.{◌∣◌, int_div_euclid, int_rem_euclid, IsGcd, w128}
 use Rattle.std.proofs.Common.{ap, ap₂, arith, inl, inr, refl, subst, sym, ◌∙◌}
 use Rattle.std.proofs.lemmas.Bool.{cases_lt, false≢true}
@@ -11,7 +12,7 @@ use Rattle.std.proofs.Math.Nat.{dvd-mul_right, dvd_of_mul-dvd-mul_right, mul-le-
 use Rattle.ss_summary.proofs.Bounds.{times-le-times}
 use Rattle.ss_bounds.specs.declared.fraction.Fraction.{Fraction}
 use Rattle.ss_bounds.specs.Fractions.{is_whole_by, whole_by, lowest, IsSame, IsLowest}
-use Rattle.ss_bounds.specs.Means.{taken}
+use Rattle.ss_bounds.specs.Means.{so_many}
 use Rattle.ss_bounds.proofs.Held.{held}
 use Rattle.ss_bounds.proofs.Numbers.{product-times, times-minus, times-plus}
 use Rattle.ss_bounds.proofs.GuessLemmas.{div_euclid-rem, products-turned, product-turned}
@@ -220,5 +221,5 @@ module _ (a : Fraction) (w q : ℤ) (r s g : ℕ) (some : 0 < a.under) (first : 
       }) (IsLowest-lowest a some)
 
 -- as the code holds it
-pub held-over : (q : ℤ) (u : ℕ) (a : Fraction) → FitsSigned w128 q → taken (λ n. q) u ≡ a → taken (λ n. held q) u ≡ a
-held-over q u a fits same = subst (λ (o : ℤ). taken (λ n. o) u ≡ a) (sym (to_z-of_z w128 q fits)) same
+pub held-over : (q : ℤ) (u : ℕ) (a : Fraction) → FitsSigned w128 q → so_many (λ n. q) u ≡ a → so_many (λ n. held q) u ≡ a
+held-over q u a fits same = subst (λ (o : ℤ). so_many (λ n. o) u ≡ a) (sym (to_z-of_z w128 q fits)) same

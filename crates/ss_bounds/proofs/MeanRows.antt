@@ -138,7 +138,8 @@ unfolding mean_interval lowest
 means-low = refl
 
 -- of two windows what is taken of one hangs on the other: 5/3 is 1 of one value and 4 of two
-means-pairs : mean_at (pos 0) 0 (few_of (pos 2) (pos 0) (pos 1) ∷ few_of (pos 4) (pos 0) (pos 2) ∷ []) ∷ mean_at (pos 0) 0 (few_of (pos 2) (pos 0) (pos 1) ∷ []) ∷ mean_at (pos 0) 0 (few_of (pos 4) (pos 0) (pos 2) ∷ []) ∷ []
+means-pairs : mean_at (pos 0) 0 (few_of (pos 2) (pos 0) (pos 1) ∷ few_of (pos 4) (pos 0) (pos 2) ∷ [])
+    ∷ mean_at (pos 0) 0 (few_of (pos 2) (pos 0) (pos 1) ∷ []) ∷ mean_at (pos 0) 0 (few_of (pos 4) (pos 0) (pos 2) ∷ []) ∷ []
     ≡ Sure (fraction (pos 0) 1) (fraction (pos 5) 3) ∷ Sure (fraction (pos 0) 1) (fraction (pos 1) 1) ∷ Sure (fraction (pos 0) 1) (fraction (pos 2) 1) ∷ []
 unfolding mean_interval lowest
 means-pairs = refl

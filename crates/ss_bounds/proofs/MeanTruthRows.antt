@@ -5,7 +5,7 @@ use Rattle.std.proofs.lemmas.Int.{ints}
 use Rattle.ss_bounds.specs.declared.fraction.Fraction.{Fraction}
 use Rattle.ss_bounds.specs.declared.mean.Mean.TheVariants.{Nothing, Sure, Maybe}
 use Rattle.ss_bounds.specs.Fractions.{IsAtMost, IsLowest, lowest}
-use Rattle.ss_bounds.specs.MeanTruth.{AreWithin, HoldsMean, IsAttained, MayHave, all_together, counts_between, sums_between}
+use Rattle.ss_bounds.specs.MeanTruth.{AreWithin, HoldsMean, AttainsMean, MayHave, all_together, counts_between, sums_between}
 use Rattle.ss_bounds.specs.Split.{high_sum, low_sum, sum_interval}
 use Rattle.ss_bounds.proofs.MeanRows.{four, fraction, two}
 
@@ -81,17 +81,17 @@ HoldsMean-nothing : HoldsMean Nothing (fraction (pos 1) 1) → ⊥
 HoldsMean-nothing holds = omega (arith, holds)
 
 -- 17/2 is attained by 8 and 9, and -1 by -3, -2 and 2; what is over 0 isn't
-IsAttained-high : IsAttained high_sum (fraction (pos 0) 0) (four 1 15 14 ∷ two ∷ []) (fraction (pos 17) 2)
-IsAttained-high = (fraction (pos 17) 2, (1, lit≤ tt, lit≤ tt, (1, lit≤ tt, lit≤ tt, refl)), lit≤ tt, record { crosswise = refl })
+AttainsMean-high : AttainsMean high_sum (fraction (pos 0) 0) (four 1 15 14 ∷ two ∷ []) (fraction (pos 17) 2)
+AttainsMean-high = (fraction (pos 17) 2, (1, lit≤ tt, lit≤ tt, (1, lit≤ tt, lit≤ tt, refl)), lit≤ tt, record { crosswise = refl })
 
-IsAttained-low : IsAttained low_sum (fraction (pos 0) 0) (four 1 15 14 ∷ two ∷ []) (fraction (negsuc 0) 1)
-IsAttained-low = (fraction (negsuc 2) 3, (2, lit≤ tt, lit≤ tt, (1, lit≤ tt, lit≤ tt, refl)), lit≤ tt, record { crosswise = refl })
+AttainsMean-low : AttainsMean low_sum (fraction (pos 0) 0) (four 1 15 14 ∷ two ∷ []) (fraction (negsuc 0) 1)
+AttainsMean-low = (fraction (negsuc 2) 3, (2, lit≤ tt, lit≤ tt, (1, lit≤ tt, lit≤ tt, refl)), lit≤ tt, record { crosswise = refl })
 
-IsAttained-none : IsAttained low_sum (fraction (pos 0) 0) [] (fraction (pos 0) 1) → ⊥
-IsAttained-none at = let under = ap (λ (f : Fraction). f.under) at.1 in omega (arith, at.2)
+AttainsMean-none : AttainsMean low_sum (fraction (pos 0) 0) [] (fraction (pos 0) 1) → ⊥
+AttainsMean-none at = let under = ap (λ (f : Fraction). f.under) at.1 in omega (arith, at.2)
 
-IsAttained-other : IsAttained low_sum (fraction (pos 1) 1) [] (fraction (pos 2) 1) → ⊥
-IsAttained-other at =
+AttainsMean-other : AttainsMean low_sum (fraction (pos 1) 1) [] (fraction (pos 2) 1) → ⊥
+AttainsMean-other at =
     let under = ap (λ (f : Fraction). f.under) at.1 in
     let over = ap (λ (f : Fraction). f.over) at.1 in
     let same = at.3.crosswise in

@@ -8,7 +8,7 @@ use Rattle.ss_summary.proofs.Bounds.{times-le-times}
 use Rattle.ss_bounds.specs.declared.fraction.Fraction.{Fraction}
 use Rattle.ss_bounds.specs.Fractions.{IsAtMost, at_most, at_least, lowest}
 use Rattle.ss_bounds.specs.Guess.{AreAllSplit}
-use Rattle.ss_bounds.specs.Means.{Reaches, best_mean, mean_from, mean_interval, taken, together}
+use Rattle.ss_bounds.specs.Means.{AddsUpTo, best_mean, mean_from, mean_interval, so_many, with_values}
 use Rattle.ss_bounds.specs.MeanTruth.{IsNoWider, counts_between, sums_between}
 use Rattle.ss_bounds.specs.Split.{SplitFigures, least_count, greatest_count, low_sum, high_sum}
 use Rattle.ss_bounds.proofs.FractionLemmas.{IsAtMost-IsSame, IsAtMost-trans, IsSame-sym, IsOrder-at_least, IsOrder-at_most}
@@ -18,34 +18,34 @@ use Rattle.ss_bounds.proofs.Numbers.{minus-times, more-times}
 use Rattle.ss_bounds.proofs.TruthLemmas.{sum_interval-at}
 
 -- what is reached has a count and a sum of their intervals
-counts-reached : (sum : SplitFigures → ℕ → ℤ) (known : Fraction) (splits : List SplitFigures) (v : Fraction) → Reaches sum known splits v
+counts-reached : (sum : SplitFigures → ℕ → ℤ) (known : Fraction) (splits : List SplitFigures) (v : Fraction) → AddsUpTo sum known splits v
     → (known.under + sum_by least_count splits ≤ v.under) × (v.under ≤ known.under + sum_by greatest_count splits)
 counts-reached sum known [] v is = let under = ap (λ (f : Fraction). f.under) is in (omega arith, omega arith)
 counts-reached sum known (s ∷ splits) v (x, from, to, reached) =
-    let rest = counts-reached sum (together known (taken (sum s) x)) splits v reached in
+    let rest = counts-reached sum (with_values known (so_many (sum s) x)) splits v reached in
     let least = sum_by-cons least_count s splits in
     let greatest = sum_by-cons greatest_count s splits in
     (omega (arith, rest.0), omega (arith, rest.1))
 
-low-sum_reached : (known : Fraction) (splits : List SplitFigures) (v : Fraction) → Reaches low_sum known splits v
+low-sum_reached : (known : Fraction) (splits : List SplitFigures) (v : Fraction) → AddsUpTo low_sum known splits v
     → (sums_between known splits).0 ≤ℤ v.over
 low-sum_reached known [] v is = let over = ap (λ (f : Fraction). f.over) is in omega (arith, ints)
 low-sum_reached known (s ∷ splits) v (x, from, to, reached) =
-    let rest = low-sum_reached (together known (taken (low_sum s) x)) splits v reached in
+    let rest = low-sum_reached (with_values known (so_many (low_sum s) x)) splits v reached in
     let at = sum_interval-at s x from to in
     omega (arith, ints, rest, at.0)
 
-high-sum_reached : (known : Fraction) (splits : List SplitFigures) (v : Fraction) → Reaches high_sum known splits v
+high-sum_reached : (known : Fraction) (splits : List SplitFigures) (v : Fraction) → AddsUpTo high_sum known splits v
     → v.over ≤ℤ (sums_between known splits).1
 high-sum_reached known [] v is = let over = ap (λ (f : Fraction). f.over) is in omega (arith, ints)
 high-sum_reached known (s ∷ splits) v (x, from, to, reached) =
-    let rest = high-sum_reached (together known (taken (high_sum s) x)) splits v reached in
+    let rest = high-sum_reached (with_values known (so_many (high_sum s) x)) splits v reached in
     let at = sum_interval-at s x from to in
     omega (arith, ints, rest, at.1)
 
 -- a mean lies within a sum over one of two counts that its own lies between
 below-quotient : (v : Fraction) (top : ℤ) (a b : ℕ) → a ≤ v.under → v.under ≤ b → v.over ≤ℤ top
-    → IsAtMost v (taken (λ n. top) a) ⊎ IsAtMost v (taken (λ n. top) b)
+    → IsAtMost v (so_many (λ n. top) a) ⊎ IsAtMost v (so_many (λ n. top) b)
 below-quotient v top a b few many less = by_lt_z top (pos 0)
     (λ down.
     let scaled = times-le-times b v.over top less in
@@ -58,7 +58,7 @@ below-quotient v top a b few many less = by_lt_z top (pos 0)
     inl (record { crosswise = omega (arith, ints) }))
 
 above-quotient : (v : Fraction) (bottom : ℤ) (a b : ℕ) → a ≤ v.under → v.under ≤ b → bottom ≤ℤ v.over
-    → IsAtMost (taken (λ n. bottom) a) v ⊎ IsAtMost (taken (λ n. bottom) b) v
+    → IsAtMost (so_many (λ n. bottom) a) v ⊎ IsAtMost (so_many (λ n. bottom) b) v
 above-quotient v bottom a b few many less = by_lt_z bottom (pos 0)
     (λ down.
     let scaled = times-le-times a bottom v.over less in
@@ -71,9 +71,9 @@ above-quotient v bottom a b few many less = by_lt_z bottom (pos 0)
     inr (record { crosswise = omega (arith, ints) }))
 
 module _ (known : Fraction) (splits : List SplitFigures) where
-  lowest-above : (l : Fraction) → IsBest IsOrder-at_most (Reaches low_sum known splits) (Some l)
-      → IsAtMost (taken (λ n. (sums_between known splits).0) (max 1 (counts_between known splits).0)) (lowest l)
-      ⊎ IsAtMost (taken (λ n. (sums_between known splits).0) (counts_between known splits).1) (lowest l)
+  lowest-above : (l : Fraction) → IsBest IsOrder-at_most (AddsUpTo low_sum known splits) (Some l)
+      → IsAtMost (so_many (λ n. (sums_between known splits).0) (max 1 (counts_between known splits).0)) (lowest l)
+      ⊎ IsAtMost (so_many (λ n. (sums_between known splits).0) (counts_between known splits).1) (lowest l)
   lowest-above l best =
       let counts = counts-reached low_sum known splits l best.reached in
       let more = best.some in
@@ -84,9 +84,9 @@ module _ (known : Fraction) (splits : List SplitFigures) where
         | inr second ↦ inr (IsAtMost-trans _ l (lowest l) best.some second same)
       ]
 
-  lowest-below : (h : Fraction) → IsBest IsOrder-at_least (Reaches high_sum known splits) (Some h)
-      → IsAtMost (lowest h) (taken (λ n. (sums_between known splits).1) (max 1 (counts_between known splits).0))
-      ⊎ IsAtMost (lowest h) (taken (λ n. (sums_between known splits).1) (counts_between known splits).1)
+  lowest-below : (h : Fraction) → IsBest IsOrder-at_least (AddsUpTo high_sum known splits) (Some h)
+      → IsAtMost (lowest h) (so_many (λ n. (sums_between known splits).1) (max 1 (counts_between known splits).0))
+      ⊎ IsAtMost (lowest h) (so_many (λ n. (sums_between known splits).1) (counts_between known splits).1)
   lowest-below h best =
       let counts = counts-reached high_sum known splits h best.reached in
       let more = best.some in
@@ -97,8 +97,8 @@ module _ (known : Fraction) (splits : List SplitFigures) where
         | inr second ↦ inr (IsAtMost-trans (lowest h) h _ best.some same second)
       ]
 
-  no-wider-from : (sure : Bool) (lo hi : Option Fraction) → IsBest IsOrder-at_most (Reaches low_sum known splits) lo
-      → IsBest IsOrder-at_least (Reaches high_sum known splits) hi
+  no-wider-from : (sure : Bool) (lo hi : Option Fraction) → IsBest IsOrder-at_most (AddsUpTo low_sum known splits) lo
+      → IsBest IsOrder-at_least (AddsUpTo high_sum known splits) hi
       → IsNoWider (sums_between known splits) (counts_between known splits) (mean_from sure (option_map lowest lo) (option_map lowest hi))
   no-wider-from sure None hi first second = tt
   no-wider-from sure (Some l) None first second = tt

@@ -6,7 +6,7 @@ use Rattle.ss_bounds.specs.declared.side.Side.{Side}
 use Rattle.ss_bounds.specs.declared.side.Side.TheVariants.{Least, Greatest}
 use Rattle.ss_bounds.specs.Fractions.{at_most, at_least, IsSame}
 use Rattle.ss_bounds.specs.Lines.{IsStraight}
-use Rattle.ss_bounds.specs.Means.{better, mean_of, taken, together}
+use Rattle.ss_bounds.specs.Means.{better, mean_of, so_many, with_values}
 use Rattle.ss_bounds.specs.Split.{SplitFigures, IsSplit, least_count, greatest_count, low_sum, high_sum}
 
 -- which of two means is the better one, and which sum so many values have there
@@ -30,11 +30,11 @@ pub record AreBends (f : ℕ → ℤ) (a b p q : ℕ) : Type 0 where
 -- the corners of f from a to b: the ends, the first number that isn't 0, and its bends
 pub record AreCorners (f : ℕ → ℤ) (a b : ℕ) (c : Corners) : Type 0 where
   pub order : a ≤ b
-  pub fewest : c.fewest ≡ taken f a
-  pub some : c.some ≡ taken f (min (max a 1) b)
-  pub before : c.before ≡ taken f c.before.under
-  pub after : c.after ≡ taken f c.after.under
-  pub most : c.most ≡ taken f b
+  pub fewest : c.fewest ≡ so_many f a
+  pub some : c.some ≡ so_many f (min (max a 1) b)
+  pub before : c.before ≡ so_many f c.before.under
+  pub after : c.after ≡ so_many f c.after.under
+  pub most : c.most ≡ so_many f b
   pub bends : AreBends f a b c.before.under c.after.under
 
 -- sums and counts of at most as many values as a window holds
@@ -57,10 +57,10 @@ best_at order f c =
 -- the best mean of what is known with the values of the windows that there are, at their corners
 abbrev pub best_of_corners : Side → Fraction → Option Corners → Option Corners → Option Fraction
 best_of_corners side known None None = mean_of known
-best_of_corners side known (Some c) None = best_at (order_of side) (λ v. mean_of (together known v)) c
-best_of_corners side known None (Some d) = best_at (order_of side) (λ v. mean_of (together known v)) d
+best_of_corners side known (Some c) None = best_at (order_of side) (λ v. mean_of (with_values known v)) c
+best_of_corners side known None (Some d) = best_at (order_of side) (λ v. mean_of (with_values known v)) d
 best_of_corners side known (Some c) (Some d) =
-    best_at (order_of side) (λ v. best_at (order_of side) (λ w. mean_of (together (together known v) w)) d) c
+    best_at (order_of side) (λ v. best_at (order_of side) (λ w. mean_of (with_values (with_values known v) w)) d) c
 
 -- the corners of a split window, if there is one
 abbrev pub AreCornersOf : Side → Option SplitFigures → Option Corners → Type 0

@@ -4,7 +4,7 @@ use Rattle.ss_bounds.specs.declared.fraction.Fraction.{Fraction}
 use Rattle.ss_bounds.specs.declared.mean.Mean.{Mean}
 use Rattle.ss_bounds.specs.declared.mean.Mean.TheVariants.{Nothing, Sure, Maybe}
 use Rattle.ss_bounds.specs.Fractions.{IsAtMost, IsSame}
-use Rattle.ss_bounds.specs.Means.{Reaches, taken, together}
+use Rattle.ss_bounds.specs.Means.{AddsUpTo, so_many, with_values}
 use Rattle.ss_bounds.specs.Split.{SplitFigures, least_count, greatest_count, low_sum, high_sum, sum_interval}
 use Rattle.ss_bounds.specs.Truth.{total}
 
@@ -21,12 +21,12 @@ EachMayHave [] = Unit {0}
 EachMayHave (w ∷ ws) = MayHave w.0 w.1 × EachMayHave ws
 
 -- the windows, and their values together with those that are known
-abbrev pub windows_of : List (SplitFigures × Fraction) → List SplitFigures
-windows_of windows = map (λ w. w.0) windows
+abbrev pub figures_alone : List (SplitFigures × Fraction) → List SplitFigures
+figures_alone windows = map (λ w. w.0) windows
 
 abbrev pub all_together : Fraction → List (SplitFigures × Fraction) → Fraction
 all_together known [] = known
-all_together known (w ∷ ws) = all_together (together known w.1) ws
+all_together known (w ∷ ws) = all_together (with_values known w.1) ws
 
 -- what is known of a mean is true of that of some values, or of there being none
 abbrev pub HoldsMean : Mean → Fraction → Type 0
@@ -35,14 +35,14 @@ HoldsMean (Sure lo hi) values = (0 < values.under) × IsAtMost lo values × IsAt
 HoldsMean (Maybe lo hi) values = 0 < values.under → IsAtMost lo values × IsAtMost values hi
 
 -- an end is the mean of what is known with a number of values of each split window, with the sum that `sum` gives so many
-abbrev pub IsAttained : (SplitFigures → ℕ → ℤ) → Fraction → List SplitFigures → Fraction → Type 0
-IsAttained sum known splits end = (values : Fraction) × Reaches sum known splits values × (0 < values.under) × IsSame values end
+abbrev pub AttainsMean : (SplitFigures → ℕ → ℤ) → Fraction → List SplitFigures → Fraction → Type 0
+AttainsMean sum known splits end = (values : Fraction) × AddsUpTo sum known splits values × (0 < values.under) × IsSame values end
 
 -- the ends are attained, with the least sums and with the greatest
 abbrev pub AreAttained : Fraction → List SplitFigures → Mean → Type 0
-AreAttained known splits Nothing = (values : Fraction) → Reaches low_sum known splits values → values.under ≡ 0
-AreAttained known splits (Sure lo hi) = IsAttained low_sum known splits lo × IsAttained high_sum known splits hi
-AreAttained known splits (Maybe lo hi) = IsAttained low_sum known splits lo × IsAttained high_sum known splits hi
+AreAttained known splits Nothing = (values : Fraction) → AddsUpTo low_sum known splits values → values.under ≡ 0
+AreAttained known splits (Sure lo hi) = AttainsMean low_sum known splits lo × AttainsMean high_sum known splits hi
+AreAttained known splits (Maybe lo hi) = AttainsMean low_sum known splits lo × AttainsMean high_sum known splits hi
 
 -- from which to which sum the values in the range have, and how many they are
 abbrev pub sums_between : Fraction → List SplitFigures → ℤ × ℤ
@@ -54,8 +54,8 @@ counts_between known splits = (known.under + sum_by least_count splits, known.un
 
 -- two ends lie within the sums over the counts, where no count is 0
 pub record AreWithin (sums : ℤ × ℤ) (counts : ℕ × ℕ) (lo hi : Fraction) : Type 0 where
-  pub low : IsAtMost (taken (λ n. sums.0) (max 1 counts.0)) lo ⊎ IsAtMost (taken (λ n. sums.0) counts.1) lo
-  pub high : IsAtMost hi (taken (λ n. sums.1) (max 1 counts.0)) ⊎ IsAtMost hi (taken (λ n. sums.1) counts.1)
+  pub low : IsAtMost (so_many (λ n. sums.0) (max 1 counts.0)) lo ⊎ IsAtMost (so_many (λ n. sums.0) counts.1) lo
+  pub high : IsAtMost hi (so_many (λ n. sums.1) (max 1 counts.0)) ⊎ IsAtMost hi (so_many (λ n. sums.1) counts.1)
 
 -- an interval is no wider
 abbrev pub IsNoWider : ℤ × ℤ → ℕ × ℕ → Mean → Type 0

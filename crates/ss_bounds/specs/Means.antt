@@ -9,12 +9,12 @@ use Rattle.ss_bounds.specs.Fractions.{at_most, at_least, lowest}
 use Rattle.ss_bounds.specs.Split.{SplitFigures, least_count, greatest_count, low_sum, high_sum}
 
 -- the sum and the count of some values and of others together
-abbrev pub together : Fraction → Fraction → Fraction
-together a b = record { over = a.over +ℤ b.over; under = a.under + b.under }
+abbrev pub with_values : Fraction → Fraction → Fraction
+with_values a b = record { over = a.over +ℤ b.over; under = a.under + b.under }
 
 -- x values of a split window, with the sum that f gives to so many
-abbrev pub taken : (ℕ → ℤ) → ℕ → Fraction
-taken f x = record { over = f x; under = x }
+abbrev pub so_many : (ℕ → ℤ) → ℕ → Fraction
+so_many f x = record { over = f x; under = x }
 
 -- the mean of some values, by their sum and count
 abbrev pub mean_of : Fraction → Option Fraction
@@ -35,14 +35,14 @@ best_of order f a (suc n) = better order (best_of order f a n) (f (a + suc n))
 abbrev pub best_mean : (Fraction → Fraction → Bool) → (SplitFigures → ℕ → ℤ) → Fraction → List SplitFigures → Option Fraction
 best_mean order sum known [] = mean_of known
 best_mean order sum known (s ∷ splits) =
-    best_of order (λ x. best_mean order sum (together known (taken (sum s) x)) splits) (least_count s) (greatest_count s - least_count s)
+    best_of order (λ x. best_mean order sum (with_values known (so_many (sum s) x)) splits) (least_count s) (greatest_count s - least_count s)
 
 -- some values have this sum and count: those that are known, and of each split window a number of values that may lie in the range, with
 -- the sum that `sum` gives so many
-abbrev pub Reaches : (SplitFigures → ℕ → ℤ) → Fraction → List SplitFigures → Fraction → Type 0
-Reaches sum known [] values = known ≡ values
-Reaches sum known (s ∷ splits) values =
-    (x : ℕ) × (least_count s ≤ x) × (x ≤ greatest_count s) × Reaches sum (together known (taken (sum s) x)) splits values
+abbrev pub AddsUpTo : (SplitFigures → ℕ → ℤ) → Fraction → List SplitFigures → Fraction → Type 0
+AddsUpTo sum known [] values = known ≡ values
+AddsUpTo sum known (s ∷ splits) values =
+    (x : ℕ) × (least_count s ≤ x) × (x ≤ greatest_count s) × AddsUpTo sum (with_values known (so_many (sum s) x)) splits values
 
 -- the least mean, and the greatest
 abbrev pub least_mean : Fraction → List SplitFigures → Option Fraction

@@ -4,7 +4,7 @@ ghost use Rattle.std.specs.Prelude.{◌≡◌, ◌^◌, ◌≤◌, IfSome};
 ghost use Rattle.ss_bounds.specs.declared.side.Side.TheVariants.{Greatest, Least};
 ghost use Rattle.ss_bounds.specs.Split.{IsSplit, greatest_count, least_count};
 ghost use Rattle.ss_bounds.specs.Corners.{AreBends, AreCorners, AreCornersOf, AreSmall, IsSmall, fewest_of, sum_at};
-ghost use Rattle.ss_bounds.specs.Means.{taken};
+ghost use Rattle.ss_bounds.specs.Means.{so_many};
 
 use crate::bounds::count_bounds;
 use crate::fraction::Fraction;
@@ -88,7 +88,7 @@ fn bends(side: Side, split: Split, fewest: u64, most: u64) -> (u64, u64)
 // So many values of the window.
 fn taken(side: Side, split: Split, x: u64) -> Fraction
     requires { x ≤ split.count }
-    ensures value { result ≡ taken (sum_at side split) x }
+    ensures value { result ≡ so_many (sum_at side split) x }
     ensures small { IsSmall result }
 {
     // Read for the proof alone: with a field comes what holds of each split.

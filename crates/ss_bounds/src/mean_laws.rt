@@ -6,7 +6,7 @@ ghost use Rattle.ss_bounds.specs.declared.mean.Mean.TheVariants.{Sure};
 ghost use Rattle.ss_bounds.specs.Fractions.{IsLowest, lowest};
 ghost use Rattle.ss_bounds.specs.Guess.{AreAllSplit};
 ghost use Rattle.ss_bounds.specs.Means.{mean_interval};
-ghost use Rattle.ss_bounds.specs.MeanTruth.{AreAttained, EachMayHave, HoldsMean, IsNoWider, MayHave, all_together, counts_between, sums_between, windows_of};
+ghost use Rattle.ss_bounds.specs.MeanTruth.{AreAttained, EachMayHave, HoldsMean, IsNoWider, MayHave, all_together, counts_between, sums_between, figures_alone};
 ghost use Rattle.ss_bounds.specs.Split.{SplitFigures};
 ghost use Rattle.ss_bounds.specs.Truth.{AreSplit, asked, total};
 
@@ -15,7 +15,7 @@ ghost use Rattle.ss_bounds.specs.Truth.{AreSplit, asked, total};
 /// the values of a window that lie in the range do (`values`). Where no window is split it is one number (`known`).
 pub fn means_hold_the_truth()
     ensures windows { (known : Fraction) (windows : List (SplitFigures × Fraction)) → EachMayHave windows
-        → HoldsMean (mean_interval known (windows_of windows)) (all_together known windows) }
+        → HoldsMean (mean_interval known (figures_alone windows)) (all_together known windows) }
     ensures values { (free : ℕ → Bool) (from to : ℕ) (p : Point) (ps : List Point) (s : SplitFigures) → AreSplit free from to p ps s
         → MayHave s (record { over = total (asked from to (p ∷ ps)); under = length (asked from to (p ∷ ps)) }) }
     ensures known { (known : Fraction) → 0 < known.under → mean_interval known [] ≡ Sure (lowest known) (lowest known) }

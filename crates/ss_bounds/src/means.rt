@@ -5,7 +5,7 @@ ghost use Rattle.ss_base.specs.Near.{IsNear};
 ghost use Rattle.ss_bounds.specs.Corners.{AreSmall, best_at, best_of_corners, order_of};
 ghost use Rattle.ss_bounds.specs.Extremes.{listed};
 ghost use Rattle.ss_bounds.specs.Fractions.{lowest};
-ghost use Rattle.ss_bounds.specs.Means.{mean_from, mean_interval, mean_of, together};
+ghost use Rattle.ss_bounds.specs.Means.{mean_from, mean_interval, mean_of, with_values};
 
 use crate::corners::{Corners, sides_of};
 use crate::fraction::Fraction;
@@ -89,23 +89,23 @@ fn end_of_one(side: Side, known: Fraction, window: Corners) -> Option<Fraction>
     requires wide { unsigned_abs known.over ≤ 2 ^ 121 }
     requires many { known.under ≤ 2 ^ 63 }
     requires window { AreSmall window }
-    ensures value { result ≡ best_at (order_of side) (λ c. mean_of (together known c)) window }
+    ensures value { result ≡ best_at (order_of side) (λ c. mean_of (with_values known c)) window }
     ensures some { IfSome result (λ f. 0 < f.under) }
 {
     let fewest = better(
         side,
-        mean_of(together(known, window.fewest)),
-        mean_of(together(known, window.some)),
+        mean_of(with_values(known, window.fewest)),
+        mean_of(with_values(known, window.some)),
     );
     let middle = better(
         side,
-        mean_of(together(known, window.before)),
-        mean_of(together(known, window.after)),
+        mean_of(with_values(known, window.before)),
+        mean_of(with_values(known, window.after)),
     );
     better(
         side,
         better(side, fewest, middle),
-        mean_of(together(known, window.most)),
+        mean_of(with_values(known, window.most)),
     )
 }
 
@@ -115,30 +115,30 @@ fn end_of_two(side: Side, known: Fraction, left: Corners, right: Corners) -> Opt
     requires few { known.under ≤ 2 ^ 62 }
     requires left { AreSmall left }
     requires right { AreSmall right }
-    ensures value { result ≡ best_at (order_of side) (λ c. best_at (order_of side) (λ d. mean_of (together (together known c) d)) right) left }
+    ensures value { result ≡ best_at (order_of side) (λ c. best_at (order_of side) (λ d. mean_of (with_values (with_values known c) d)) right) left }
     ensures some { IfSome result (λ f. 0 < f.under) }
 {
     let fewest = better(
         side,
-        end_of_one(side, together(known, left.fewest), right),
-        end_of_one(side, together(known, left.some), right),
+        end_of_one(side, with_values(known, left.fewest), right),
+        end_of_one(side, with_values(known, left.some), right),
     );
     let middle = better(
         side,
-        end_of_one(side, together(known, left.before), right),
-        end_of_one(side, together(known, left.after), right),
+        end_of_one(side, with_values(known, left.before), right),
+        end_of_one(side, with_values(known, left.after), right),
     );
-    let last = end_of_one(side, together(known, left.most), right);
+    let last = end_of_one(side, with_values(known, left.most), right);
     better(side, better(side, fewest, middle), last)
 }
 
 // The sum and the count of some values and of others together.
-fn together(a: Fraction, b: Fraction) -> Fraction
+fn with_values(a: Fraction, b: Fraction) -> Fraction
     requires wide { unsigned_abs a.over ≤ 2 ^ 121 }
     requires many { a.under ≤ 2 ^ 63 }
     requires small { unsigned_abs b.over ≤ 2 ^ 107 }
     requires few { b.under ≤ 2 ^ 40 }
-    ensures { result ≡ together a b }
+    ensures { result ≡ with_values a b }
 {
     Fraction {
         over: a.over + b.over,
