@@ -13,7 +13,7 @@ from .errors import (CertificateError, CommandError, CursorBusyError, DamagedSto
                      DiskFullError, InputFaultError, InputTooLongError, KilledError, KindError,
                      LandmarkNotOpenError, LandmarkOpenError, LateError, LineTooLongError, LockedError,
                      MeterError, NamesFileError, NoCursorError, NoStoreError, NotANumberError, NoValueError,
-                     NumberError, Outcome, outcome_of, OutOfMemoryError, OutputFaultError, ProcessEndedError,
+                     NumberError, Outcome, OutOfMemoryError, OutputFaultError, ProcessEndedError,
                      ProgramMissingError, ProtocolError, RangeError, RecordChangedError, RefusedError,
                      ReopenedWarning, RoundedTimeWarning, RowsRefusedError, ScaleError, ServiceError,
                      SourceError, StepWarning, StoreClosedError, StoreFileError, StoreFullError,
@@ -21,6 +21,7 @@ from .errors import (CertificateError, CommandError, CursorBusyError, DamagedSto
                      TimeError, TooManyStreamsError, UnexpectedEndError, UnknownStreamError, UsageError)
 from .interval import Interval, Presence, mean_of
 from .names import Names
+from .outcome import outcome_of
 from .program import StorePath, check
 from .records import Estimate, EstimateRow, Last, Reading, Row, Soundness, Stored, Stream, Window
 from .series import Series

@@ -21,7 +21,7 @@ from .codec import Change, Codec
 from .connection import Connection
 from .description import Description, brought_to, changed, description_of
 from .errors import (CursorBusyError, LateError, RefusedError, StoreClosedError, StreamExistsError,
-                     SummaryStoreError, tell)
+                     SummaryStoreError)
 from .aio_channel import Channel
 from .aio_handle import Handle
 from .frames import columns_of, frame_of, names_left, rows_of
@@ -30,6 +30,7 @@ from .gauges import (BESIDE, GaugeCodec, gauge_of, increments_name, increments_o
 from .meters import counting, meter_of
 from .names import Names
 from .program import StorePath
+from .outcome import tell
 from .present import UNSAID, next_free, reading_of
 from .records import Soundness, Stored, Time, Window
 from .remote import SECONDS

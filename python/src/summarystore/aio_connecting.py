@@ -13,9 +13,10 @@ from yarl import URL
 
 from . import calls, remote
 from .calls import Call
-from .errors import LateError, ServiceError, StoreClosedError, tell
+from .errors import LateError, ServiceError, StoreClosedError
 from .frames import columns_of, frame_of, names_left
 from .aio_handle import Handle
+from .outcome import tell
 from .present import UNSAID, reading_of
 from .aio_questions import Questions
 from .records import Stored, Time, Window

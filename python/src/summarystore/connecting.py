@@ -14,9 +14,10 @@ from urllib.response import addinfourl
 
 from . import calls, remote
 from .calls import Call
-from .errors import LateError, ServiceError, StoreClosedError, UnknownStreamError, tell
+from .errors import LateError, ServiceError, StoreClosedError, UnknownStreamError
 from .frames import columns_of, frame_of, names_left
 from .handle import Handle
+from .outcome import tell
 from .present import UNSAID, reading_of
 from .questions import Questions
 from .records import Stored, Window

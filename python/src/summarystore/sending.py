@@ -12,9 +12,10 @@ from itertools import islice
 from . import wire
 from .codec import Codec, pairs
 from .connection import Connection
-from .errors import LateError, Outcome, ProcessEndedError, RowsRefusedError, tell
+from .errors import LateError, Outcome, ProcessEndedError, RowsRefusedError
 from .gauges import GaugeCodec
 from .late import InOrder
+from .outcome import tell
 from .pipeline import Appends, PairedAppends
 
 Row = tuple[object, object]

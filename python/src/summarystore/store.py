@@ -18,13 +18,14 @@ from .codec import Codec
 from .cursor import Windows
 from .description import Description, brought_to, changed, description_of
 from .errors import (CursorBusyError, LateError, RefusedError, StreamExistsError, StreamNameError,
-                     SummaryStoreError, UnknownStreamError, tell)
+                     SummaryStoreError, UnknownStreamError)
 from .frames import columns_of, frame_of, names_left, rows_of
 from .gauges import (BESIDE, GaugeCodec, gauge_of, increments_name, increments_of, must_stand_alone,
                      standing_of, taking, with_increments)
 from .handle import Handle
 from .late import MOST_HELD
 from .meters import counting, must_not_count
+from .outcome import tell
 from .present import UNSAID, next_free, reading_of
 from .questions import Questions
 from .records import Soundness, Stored

@@ -133,7 +133,7 @@ def test_who_may_what_and_who_is_there(service: Running, folder: Path) -> None:
     service.end(signal.SIGKILL)
     with pytest.raises(errors.ServiceError, match="unreachable") as gone:
         writer.append_many("a", [("now", 5)])
-    found = errors.outcome_of(gone.value)
+    found = summarystore.outcome_of(gone.value)
     assert found is not None and (found.acknowledged, len(found.unknown)) == (0, 1)
     writer.close()
     with pytest.raises(errors.StoreClosedError):
