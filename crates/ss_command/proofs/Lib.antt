@@ -9,3 +9,4 @@ mod SpacedLemmas
 pub mod SayLemmas
 pub mod WordLemmas
 mod Rows
+pub mod TableLemmas

@@ -1,5 +1,5 @@
 -- A printed command means that command.
-use Rattle.std.proofs.Common.{◌≡◌, ℕ, ◌^◌, ◌<◌, ◌≤◌, true, false, List, [], ◌∷◌, ◌++◌, length, Ok, None, Option, Some, arith, refl, inl, inr}
+use Rattle.std.proofs.Common.{◌≡◌, ℕ, ◌^◌, ◌<◌, ◌≤◌, true, false, List, [], ◌∷◌, length, Ok, None, Option, Some, arith, refl, ap, inl, inr}
 use Rattle.std.proofs.Common.{◌∙◌, codes, nat_lt, nat_le, ◌&&◌}
 use Rattle.std.proofs.lemmas.Bool.{cases_Bool}
 use Rattle.std.proofs.lemmas.Bool.Decides.{nat_tests}
@@ -20,11 +20,12 @@ use Rattle.ss_catalog.specs.declared.params.Params.{Params}
 use Rattle.ss_catalog.specs.declared.query.End.{End}
 use Rattle.ss_catalog.specs.declared.query.End.TheVariants as ends
 use Rattle.ss_catalog.specs.declared.query.Kind.{Kind}
+use Rattle.ss_catalog.specs.declared.query.Query.{Query}
 use Rattle.ss_catalog.specs.declared.query.Kind.TheVariants as kinds
 use Rattle.ss_command.proofs.PutLemmas.{length-decimal_32, length-decimal_64, length-end, length-kind, length-signed_64}
-use Rattle.ss_command.specs.Grammar.{added_of, command_of, end_of, figure_of, is_comment, meaning, meaning_of_words, series_step_of, steps_of, within_of}
-use Rattle.ss_command.specs.Grammar.{within_word}
-use Rattle.ss_command.specs.Printed.{IsFamilyOfNumbers, IsSayable, IsStepOfNumber, kind_words, printed, spaced, takes_value, target_words, within_words}
+use Rattle.ss_command.specs.Grammar.{command_of, is_comment, meaning, meaning_of_words}
+use Rattle.ss_command.specs.Printed.{IsFamilyOfNumbers, IsSayable, IsStepOfNumber, printed, printed_query, said_parameters, spaced, form_line, takes_value}
+use Rattle.ss_command.specs.Printed.{target_row, target_said, target_words, within_words}
 use Rattle.ss_command.specs.declared.command.Command.{Command}
 use Rattle.ss_command.specs.declared.command.Command.TheVariants as commands
 use Rattle.ss_command.proofs.SpacedLemmas.{AreWords, IsWord, IsWord-decimal, IsWord-name, IsWord-signed, length-spaced, literal, meaning-spaced}
@@ -39,86 +40,73 @@ width-within : (within : Option ℕ) → IsStepOfNumber within → width (within
 width-within None fits = omega arith
 width-within (Some step) fits = omega (arith, length-decimal_32 step fits)
 
--- the word of a step, if there is one
-abbrev step_word : Option ℕ → Option (List ℕ)
-step_word None = None
-step_word (Some step) = Some (decimal step)
+-- a printed `create` means what its words do
+create-words : (name : List ℕ) (words : List (List ℕ)) → is_name name ≡ true → AreWords words → width words ≤ 90 →
+    meaning (spaced (codes "create") (name ∷ words)) ≡ meaning_of_words (codes "create" ∷ name ∷ words)
+create-words name words is all small =
+    let short : length (spaced (codes "create") (name ∷ words)) ≤ 256 =
+    omega (arith, length-spaced (name ∷ words) (codes "create"), length-is_name name is, small) in
+    meaning-spaced (codes "create") (name ∷ words) (literal (codes "create") refl) (IsWord-name name is, all) short refl
 
-within_word-words : (within : Option ℕ) → within_word (within_words within) ≡ Ok (step_word within)
-within_word-words None = refl
-within_word-words (Some step) = refl
-
-within_of-word : (within : Option ℕ) → IsStepOfNumber within → within_of (step_word within) ≡ Ok within
-within_of-word None fits = refl
-within_of-word (Some step) fits = rw (parameter_of-decimal step fits) refl
+exp-means : (name : List ℕ) (b r s : ℕ) (within : Option ℕ) → is_name name ≡ true → b < 2 ^ 32 → r < 2 ^ 32 → s < 2 ^ 32 → IsStepOfNumber within →
+    let params : Params = record { family = Exp b r s; within = within } in
+    meaning_of_words (codes "create" ∷ name ∷ target_words params) ≡ Ok (Some (commands.Do (Create name params)))
+exp-means name b r s None is fits_b fits_r fits_s fits =
+    rw (parameter_of-decimal b fits_b, parameter_of-decimal r fits_r, parameter_of-decimal s fits_s, name_of-name name is) refl
+exp-means name b r s (Some e) is fits_b fits_r fits_s fits =
+    rw (parameter_of-decimal b fits_b, parameter_of-decimal r fits_r, parameter_of-decimal s fits_s, parameter_of-decimal e fits, name_of-name name is) refl
 
 meaning-exp : (name : List ℕ) (b r s : ℕ) (within : Option ℕ) → is_name name ≡ true → b < 2 ^ 32 → r < 2 ^ 32 → s < 2 ^ 32 → IsStepOfNumber within →
     let params : Params = record { family = Exp b r s; within = within } in
     meaning (spaced (codes "create") (name ∷ target_words params)) ≡ Ok (Some (commands.Do (Create name params)))
 meaning-exp name b r s within is fits_b fits_r fits_s fits =
-    let rest = name ∷ target_words (record { family = Exp b r s; within = within }) in
-    let all : AreWords rest = (
-      IsWord-name name is,
-      (
-        literal (codes "exp") refl,
-        (
-          IsWord-decimal b (omega arith),
-          (IsWord-decimal r (omega arith), (IsWord-decimal s (omega arith), IsWords-within within fits)),
-        ),
-      ),
+    let all : AreWords (target_words (record { family = Exp b r s; within = within })) = (
+      literal (codes "exp") refl,
+      (IsWord-decimal b (omega arith), (IsWord-decimal r (omega arith), (IsWord-decimal s (omega arith), IsWords-within within fits))),
     ) in
-    let short : length (spaced (codes "create") rest) ≤ 256 =
-    omega (
-      arith,
-      length-spaced rest (codes "create"),
-      length-is_name name is,
-      length-decimal_32 b fits_b,
-      length-decimal_32 r fits_r,
-      length-decimal_32 s fits_s,
-      width-within within fits,
-    ) in
-    meaning-spaced (codes "create") rest (literal (codes "create") refl) all short refl
-    ∙ rw (
-      within_word-words within,
-      parameter_of-decimal b fits_b,
-      parameter_of-decimal r fits_r,
-      parameter_of-decimal s fits_s,
-      within_of-word within fits,
-      name_of-name name is,
-    ) refl
+    create-words name (target_words (record { family = Exp b r s; within = within })) is all
+    (omega (arith, length-decimal_32 b fits_b, length-decimal_32 r fits_r, length-decimal_32 s fits_s, width-within within fits))
+    ∙ exp-means name b r s within is fits_b fits_r fits_s fits
+
+power-means : (name : List ℕ) (p q r s : ℕ) (within : Option ℕ) → is_name name ≡ true → p < 2 ^ 32 → q < 2 ^ 32 → r < 2 ^ 32 → s < 2 ^ 32 →
+    IsStepOfNumber within →
+    let params : Params = record { family = Power p q r s; within = within } in
+    meaning_of_words (codes "create" ∷ name ∷ target_words params) ≡ Ok (Some (commands.Do (Create name params)))
+power-means name p q r s None is fits_p fits_q fits_r fits_s fits = rw (
+  parameter_of-decimal p fits_p,
+  parameter_of-decimal q fits_q,
+  parameter_of-decimal r fits_r,
+  parameter_of-decimal s fits_s,
+  name_of-name name is,
+) refl
+power-means name p q r s (Some e) is fits_p fits_q fits_r fits_s fits = rw (
+  parameter_of-decimal p fits_p,
+  parameter_of-decimal q fits_q,
+  parameter_of-decimal r fits_r,
+  parameter_of-decimal s fits_s,
+  parameter_of-decimal e fits,
+  name_of-name name is,
+) refl
 
 meaning-power : (name : List ℕ) (p q r s : ℕ) (within : Option ℕ) → is_name name ≡ true → p < 2 ^ 32 → q < 2 ^ 32 → r < 2 ^ 32 → s < 2 ^ 32 →
     IsStepOfNumber within →
     let params : Params = record { family = Power p q r s; within = within } in
     meaning (spaced (codes "create") (name ∷ target_words params)) ≡ Ok (Some (commands.Do (Create name params)))
 meaning-power name p q r s within is fits_p fits_q fits_r fits_s fits =
-    let rest = name ∷ target_words (record { family = Power p q r s; within = within }) in
     let numbers : AreWords (decimal p ∷ decimal q ∷ decimal r ∷ decimal s ∷ within_words within) = (
       IsWord-decimal p (omega arith),
       (IsWord-decimal q (omega arith), (IsWord-decimal r (omega arith), (IsWord-decimal s (omega arith), IsWords-within within fits))),
     ) in
-    let all : AreWords rest = (IsWord-name name is, (literal (codes "power") refl, numbers)) in
-    let short : length (spaced (codes "create") rest) ≤ 256 =
-    omega (
+    create-words name (target_words (record { family = Power p q r s; within = within })) is (literal (codes "power") refl, numbers)
+    (omega (
       arith,
-      length-spaced rest (codes "create"),
-      length-is_name name is,
       length-decimal_32 p fits_p,
       length-decimal_32 q fits_q,
       length-decimal_32 r fits_r,
       length-decimal_32 s fits_s,
       width-within within fits,
-    ) in
-    meaning-spaced (codes "create") rest (literal (codes "create") refl) all short refl
-    ∙ rw (
-      within_word-words within,
-      parameter_of-decimal p fits_p,
-      parameter_of-decimal q fits_q,
-      parameter_of-decimal r fits_r,
-      parameter_of-decimal s fits_s,
-      within_of-word within fits,
-      name_of-name name is,
-    ) refl
+    ))
+    ∙ power-means name p q r s within is fits_p fits_q fits_r fits_s fits
 
 -- a printed `create` means its target
 meaning-create : (name : List ℕ) (family : Family) (within : Option ℕ) → is_name name ≡ true → IsFamilyOfNumbers family → IsStepOfNumber within →
@@ -193,26 +181,24 @@ length-verbs kind = elim (cases_Bool (is_guess kind)) [
   | inr not_is ↦ rw not_is (omega arith, omega arith)
 ]
 
--- how the words behind the first are read of a command that asks for all values, and of one that does so in rows
-reads-figure : (name : List ℕ) (kind : Kind) (times : List (List ℕ)) → takes_value kind ≡ false →
-    command_of (query_verb kind) (name ∷ kind_name kind ∷ times) ≡ figure_of name kind times
-reads-figure name kinds.Count times alone = refl
-reads-figure name kinds.Sum times alone = refl
-reads-figure name kinds.Min times alone = refl
-reads-figure name kinds.Max times alone = refl
-reads-figure name (kinds.Has value) times alone = cc
-reads-figure name kinds.CountGuess times alone = refl
-reads-figure name kinds.SumGuess times alone = refl
+-- what the words of a command mean that asks for all values, and those of one that does so in rows
+figure-means : (name : List ℕ) (kind : Kind) (from to : ℕ) → is_name name ≡ true → from ≤ LAST_TIME → to ≤ LAST_TIME → takes_value kind ≡ false →
+    command_of (query_verb kind) (name ∷ kind_name kind ∷ decimal from ∷ decimal to ∷ []) ≡ Ok
+    (commands.Ask (record { name = name; kind = kind; from = from; to = to }))
+figure-means name (kinds.Has value) from to is early late alone = cc
+figure-means name _ from to is early late alone = rw (time_of-decimal from early, time_of-decimal to late, name_of-name name is) refl
 
-reads-steps : (name : List ℕ) (kind : Kind) (times : List (List ℕ)) → takes_value kind ≡ false →
-    command_of (series_verb kind) (name ∷ kind_name kind ∷ times) ≡ steps_of name kind times
-reads-steps name kinds.Count times alone = refl
-reads-steps name kinds.Sum times alone = refl
-reads-steps name kinds.Min times alone = refl
-reads-steps name kinds.Max times alone = refl
-reads-steps name (kinds.Has value) times alone = cc
-reads-steps name kinds.CountGuess times alone = refl
-reads-steps name kinds.SumGuess times alone = refl
+-- a step cuts its range into rows
+step_of-rows : (from to step : ℕ) → 0 < step → rows_in from to step ≤ MOST_ROWS → (nat_lt 0 step && nat_le (rows_in from to step) MOST_ROWS) ≡ true
+step_of-rows from to step some few = grind (arith, nat_tests)
+
+steps-mean : (name : List ℕ) (kind : Kind) (from to step : ℕ) → is_name name ≡ true → from ≤ LAST_TIME → to ≤ LAST_TIME → step ≤ LAST_TIME →
+    (nat_lt 0 step && nat_le (rows_in from to step) MOST_ROWS) ≡ true → takes_value kind ≡ false →
+    command_of (series_verb kind) (name ∷ kind_name kind ∷ decimal from ∷ decimal to ∷ decimal step ∷ []) ≡ Ok
+    (commands.Series (record { name = name; kind = kind; from = from; to = to; step = step }))
+steps-mean name (kinds.Has value) from to step is early late small rows alone = cc
+steps-mean name _ from to step is early late small rows alone =
+    rw (time_of-decimal from early, time_of-decimal to late, time_of-decimal step small, rows, name_of-name name is) refl
 
 is_comment-query_verb : (kind : Kind) → is_comment (query_verb kind) ≡ false
 is_comment-query_verb kind = elim (cases_Bool (is_guess kind)) [ inl is ↦ rw is refl | inr not_is ↦ rw not_is refl ]
@@ -238,7 +224,7 @@ meaning-figure name kind from to is early late alone =
       length-decimal_64 to (omega arith),
     ) in
     meaning-spaced (query_verb kind) rest (IsWord-query_verb kind) all short (is_comment-query_verb kind)
-    ∙ rw (reads-figure name kind (decimal from ∷ decimal to ∷ []) alone, time_of-decimal from early, time_of-decimal to late, name_of-name name is) refl
+    ∙ rw (figure-means name kind from to is early late alone) refl
 
 -- so does one for a value
 meaning-has : (name : List ℕ) (v : ℤ) (from to : ℕ) → is_name name ≡ true → from ≤ LAST_TIME → to ≤ LAST_TIME → FitsSigned w64 v →
@@ -262,26 +248,19 @@ meaning-has name v from to is early late fits =
     meaning-spaced (codes "query") rest (literal (codes "query") refl) all short refl
     ∙ rw (value_of-signed v fits, time_of-decimal from early, time_of-decimal to late, name_of-name name is) refl
 
-meaning-query : (name : List ℕ) (kind : Kind) (from to : ℕ) → is_name name ≡ true → from ≤ LAST_TIME → to ≤ LAST_TIME → IsKindOfValues kind →
-    meaning (spaced (query_verb kind) (name ∷ kind_words kind ++ decimal from ∷ decimal to ∷ [])) ≡ Ok
-    (Some (commands.Ask (record { name = name; kind = kind; from = from; to = to })))
-meaning-query name kinds.Count from to is early late fits = meaning-figure name kinds.Count from to is early late refl
-meaning-query name kinds.Sum from to is early late fits = meaning-figure name kinds.Sum from to is early late refl
-meaning-query name kinds.Min from to is early late fits = meaning-figure name kinds.Min from to is early late refl
-meaning-query name kinds.Max from to is early late fits = meaning-figure name kinds.Max from to is early late refl
-meaning-query name (kinds.Has value) from to is early late fits = meaning-has name value from to is early late fits
-meaning-query name kinds.CountGuess from to is early late fits = meaning-figure name kinds.CountGuess from to is early late refl
-meaning-query name kinds.SumGuess from to is early late fits = meaning-figure name kinds.SumGuess from to is early late refl
-
--- a step of a series reads back
-series_step_of-decimal : (from to step : ℕ) → 0 < step → step ≤ LAST_TIME → rows_in from to step ≤ MOST_ROWS → series_step_of from to (decimal step) ≡ Ok step
-series_step_of-decimal from to step some small few =
-    let both : (nat_lt 0 step && nat_le (rows_in from to step) MOST_ROWS) ≡ true = grind (arith, nat_tests) in
-    rw (time_of-decimal step small, both) refl
+meaning-query : (query : Query) (kind : Kind) → is_name query.name ≡ true → query.from ≤ LAST_TIME → query.to ≤ LAST_TIME → IsKindOfValues kind →
+    meaning (printed_query query kind) ≡ Ok (Some (commands.Ask (record query { kind = kind })))
+meaning-query query kinds.Count is early late fits = meaning-figure query.name kinds.Count query.from query.to is early late refl
+meaning-query query kinds.Sum is early late fits = meaning-figure query.name kinds.Sum query.from query.to is early late refl
+meaning-query query kinds.Min is early late fits = meaning-figure query.name kinds.Min query.from query.to is early late refl
+meaning-query query kinds.Max is early late fits = meaning-figure query.name kinds.Max query.from query.to is early late refl
+meaning-query query (kinds.Has value) is early late fits = meaning-has query.name value query.from query.to is early late fits
+meaning-query query kinds.CountGuess is early late fits = meaning-figure query.name kinds.CountGuess query.from query.to is early late refl
+meaning-query query kinds.SumGuess is early late fits = meaning-figure query.name kinds.SumGuess query.from query.to is early late refl
 
 meaning-series : (series : Series) → is_name series.name ≡ true → IsSeriesInRange series → takes_value series.kind ≡ false →
-    meaning (printed (commands.Series series)) ≡ Ok (Some (commands.Series series))
-unfolding printed
+    meaning (spaced (series_verb series.kind)
+    (series.name ∷ kind_name series.kind ∷ decimal series.from ∷ decimal series.to ∷ decimal series.step ∷ [])) ≡ Ok (Some (commands.Series series))
 meaning-series series is ranged alone =
     let rest = series.name ∷ kind_name series.kind ∷ decimal series.from ∷ decimal series.to ∷ decimal series.step ∷ [] in
     let from = ranged.from in
@@ -306,13 +285,8 @@ meaning-series series is ranged alone =
       length-decimal_64 series.step (omega arith),
     ) in
     meaning-spaced (series_verb series.kind) rest (IsWord-series_verb series.kind) all short (is_comment-series_verb series.kind)
-    ∙ rw (
-      reads-steps series.name series.kind (decimal series.from ∷ decimal series.to ∷ decimal series.step ∷ []) alone,
-      time_of-decimal series.from from,
-      time_of-decimal series.to to,
-      series_step_of-decimal series.from series.to series.step ranged.some step ranged.few,
-      name_of-name series.name is,
-    ) refl
+    ∙ rw (steps-mean series.name series.kind series.from series.to series.step is from to step
+    (step_of-rows series.from series.to series.step ranged.some ranged.few) alone) refl
 
 meaning-windows : (name : List ℕ) → is_name name ≡ true → meaning (spaced (codes "windows") (name ∷ [])) ≡ Ok (Some (commands.Windows name))
 meaning-windows name is =
@@ -321,23 +295,21 @@ meaning-windows name is =
     meaning-spaced (codes "windows") rest (literal (codes "windows") refl) (IsWord-name name is, tt) short refl
     ∙ rw (name_of-name name is) refl
 
--- the name of what adds up, and that of an end
-added_of-name : (kind : Kind) → adds_up kind ≡ true → added_of (kind_name kind) ≡ Ok kind
-added_of-name kinds.Count added = refl
-added_of-name kinds.Sum added = refl
-added_of-name kinds.Min added = cc
-added_of-name kinds.Max added = cc
-added_of-name (kinds.Has value) added = cc
-added_of-name kinds.CountGuess added = cc
-added_of-name kinds.SumGuess added = cc
-
+-- the names of an end
 IsWord-end : (end : End) → IsWord (end_name end)
 IsWord-end ends.Lo = literal (codes "lo") refl
 IsWord-end ends.Hi = literal (codes "hi") refl
 
-end_of-name : (end : End) → end_of (end_name end) ≡ Ok end
-end_of-name ends.Lo = refl
-end_of-name ends.Hi = refl
+certify-means : (name : List ℕ) (kind : Kind) (end : End) (from to : ℕ) → is_name name ≡ true → from ≤ LAST_TIME → to ≤ LAST_TIME → adds_up kind ≡ true →
+    command_of (codes "certify") (name ∷ kind_name kind ∷ end_name end ∷ decimal from ∷ decimal to ∷ []) ≡ Ok
+    (commands.Certify (record { name = name; kind = kind; from = from; to = to }) end)
+certify-means name kinds.Min end from to is early late added = cc
+certify-means name kinds.Max end from to is early late added = cc
+certify-means name (kinds.Has value) end from to is early late added = cc
+certify-means name kinds.CountGuess end from to is early late added = cc
+certify-means name kinds.SumGuess end from to is early late added = cc
+certify-means name _ ends.Lo from to is early late added = rw (time_of-decimal from early, time_of-decimal to late, name_of-name name is) refl
+certify-means name _ ends.Hi from to is early late added = rw (time_of-decimal from early, time_of-decimal to late, name_of-name name is) refl
 
 meaning-certify : (name : List ℕ) (kind : Kind) (end : End) (from to : ℕ) → is_name name ≡ true → from ≤ LAST_TIME → to ≤ LAST_TIME →
     adds_up kind ≡ true →
@@ -360,7 +332,7 @@ meaning-certify name kind end from to is early late added =
       length-decimal_64 to (omega arith),
     ) in
     meaning-spaced (codes "certify") rest (literal (codes "certify") refl) all short refl
-    ∙ rw (added_of-name kind added, end_of-name end, time_of-decimal from early, time_of-decimal to late, name_of-name name is) refl
+    ∙ rw (certify-means name kind end from to is early late added) refl
 
 meaning-last : (name : List ℕ) → is_name name ≡ true → meaning (spaced (codes "last") (name ∷ [])) ≡ Ok (Some (commands.Last name))
 meaning-last name is =
@@ -385,16 +357,31 @@ meaning-values name from to is early late =
     meaning-spaced (codes "values") rest (literal (codes "values") refl) all short refl
     ∙ rw (time_of-decimal from early, time_of-decimal to late, name_of-name name is) refl
 
+-- a series that is printed is its words
+printed-series : (series : Series) → takes_value series.kind ≡ false → printed (commands.Series series)
+    ≡ spaced (series_verb series.kind) (series.name ∷ kind_name series.kind ∷ decimal series.from ∷ decimal series.to ∷ decimal series.step ∷ [])
+unfolding printed
+printed-series series alone = elim (cases_Bool (is_guess series.kind)) [ inl is ↦ rw is refl | inr not_is ↦ rw not_is refl ]
+
+-- a target that is printed is its words
+printed-create : (name : List ℕ) (family : Family) (within : Option ℕ) → form_line (target_row family within) name (said_parameters (target_said family within))
+    ≡ spaced (codes "create") (name ∷ target_words (record { family = family; within = within }))
+printed-create name (Exp b r s) None = refl
+printed-create name (Exp b r s) (Some e) = refl
+printed-create name (Power p q r s) None = refl
+printed-create name (Power p q r s) (Some e) = refl
+
 -- a printed command means that command
 pub meaning-printed : (command : Command) → IsSayable command → meaning (printed command) ≡ Ok (Some command)
 unfolding printed
-meaning-printed (commands.Do (Create name params)) sayable = meaning-create name params.family params.within sayable.0 sayable.1.0 sayable.1.1
+meaning-printed (commands.Do (Create name params)) sayable =
+    ap meaning (printed-create name params.family params.within) ∙ meaning-create name params.family params.within sayable.0 sayable.1.0 sayable.1.1
 meaning-printed (commands.Do (Value name t v)) sayable = meaning-value name t v sayable.0 sayable.1 sayable.2
 meaning-printed (commands.Do (Open name t)) sayable = meaning-open name t sayable.0 sayable.1
 meaning-printed (commands.Do (Close name t)) sayable = meaning-close name t sayable.0 sayable.1
 meaning-printed (commands.Do (Drop name)) sayable = meaning-drop name sayable
-meaning-printed (commands.Ask query) sayable = meaning-query query.name query.kind query.from query.to sayable.0 sayable.1.0 sayable.1.1 sayable.2
-meaning-printed (commands.Series series) sayable = meaning-series series sayable.0 sayable.1 sayable.2
+meaning-printed (commands.Ask query) sayable = meaning-query query query.kind sayable.0 sayable.1.0 sayable.1.1 sayable.2
+meaning-printed (commands.Series series) sayable = ap meaning (printed-series series sayable.2) ∙ meaning-series series sayable.0 sayable.1 sayable.2
 meaning-printed (commands.Windows name) sayable = meaning-windows name sayable
 meaning-printed (commands.Certify query end) sayable =
     meaning-certify query.name query.kind end query.from query.to sayable.0 sayable.1.0 sayable.1.1 sayable.2

@@ -1,7 +1,8 @@
 -- A command that a line means is one that a line can say.
-use Rattle.std.proofs.Common.{◌≡◌, ℕ, suc, zero, ◌-◌, ◌^◌, ◌<◌, ◌≤◌, true, false, Bool, List, [], ◌∷◌, length, Ok, Err, None, Option, Some, Result, subst, refl}
-use Rattle.std.proofs.Common.{arith, codes, nat_lt, if◌then◌else◌}
+use Rattle.std.proofs.Common.{◌≡◌, ℕ, suc, zero, ◌-◌, ◌^◌, ◌<◌, ◌≤◌, true, false, not, Bool, List, [], ◌∷◌, length, Ok, Err, None, Option, Some, Result, subst, refl}
+use Rattle.std.proofs.Common.{arith, nat_lt, if◌then◌else◌}
 use Rattle.std.proofs.lemmas.Bool.Decides.{nat_tests}
+use Rattle.std.specs.Option.{option_map_or, unwrap_or}
 use Rattle.std.specs.Prelude.{ℤ, pos, negsuc, FitsSigned}
 use Rattle.std.specs.Int.{w64}
 use Rattle.ss_fields.specs.Words.{as_negative, as_positive, number_up_to, signed_of}
@@ -12,23 +13,29 @@ use Rattle.ss_catalog.specs.Series.{rows_in}
 use Rattle.ss_catalog.specs.declared.TheConstants.{MOST_ROWS}
 use Rattle.ss_base.specs.declared.limits.TheConstants.{LAST_TIME}
 use Rattle.ss_catalog.specs.declared.event.Event.TheVariants.{Create, Value, Open, Close, Drop}
-use Rattle.ss_catalog.specs.declared.params.Family.TheVariants.{Exp, Power}
 use Rattle.ss_catalog.specs.declared.query.Kind.{Kind}
 use Rattle.ss_catalog.specs.declared.query.Kind.TheVariants as kinds
 use Rattle.ss_catalog.specs.declared.refusal.Refusal.{Refusal}
+use Rattle.ss_catalog.specs.declared.refusal.Refusal.TheVariants as refusals
 use Rattle.ss_command.specs.declared.TheConstants.{LONGEST_LINE}
-use Rattle.ss_command.specs.Grammar.{◌>>=◌, added_of, append_of, certify_of, close_of, command_of, create_of, drop_of, end_of, exp_of, figure_of}
-use Rattle.ss_command.specs.Grammar.{form_of, has_of}
-use Rattle.ss_command.specs.Grammar.{is_comment, landmark_of, last_of, list_of, meaning, values_form_of}
-use Rattle.ss_command.specs.Grammar.{◌>>=◌, meaning_of_words, estimate_of, estimates_of, guessed_of, asked_kind_of, name_of, open_of, or_number}
-use Rattle.ss_command.specs.Grammar.{parameter_of, power_of, query_of}
-use Rattle.ss_command.specs.Grammar.{series_of, series_step_of, steps_of, time_of}
-use Rattle.ss_command.specs.Grammar.{value_of, verb_of}
-use Rattle.ss_command.specs.Grammar.{windows_of, within_of, within_word}
-use Rattle.ss_command.specs.Printed.{IsSayable, IsStepOfNumber, takes_value}
-use Rattle.ss_command.specs.Words.{is_word, words}
+use Rattle.ss_command.specs.Grammar.{◌>>=◌, command_of, commanded, form_of, has_rows, is_comment, is_in_rows, list_of, meaning, meaning_of_words}
+use Rattle.ss_command.specs.Grammar.{name_of, named_of, or_number, parameter_of, row_means, time_of, with_few_rows, value_of, verb_of}
+use Rattle.ss_command.specs.Printed.{IsCommandInTime, IsSayable, takes_value}
+use Rattle.ss_command.specs.Said.{read_field, read_fields, said_nothing, with_parameter, with_times}
+use Rattle.ss_command.specs.Table.{end_named, fields_of, kind_named, row_for, forms_of}
+use Rattle.ss_command.specs.Words.{words}
 use Rattle.ss_command.specs.declared.command.Command.{Command}
 use Rattle.ss_command.specs.declared.command.Command.TheVariants as commands
+use Rattle.ss_command.specs.declared.said.Parameters.{Parameters}
+use Rattle.ss_command.specs.declared.said.Said.{Said}
+use Rattle.ss_command.specs.declared.said.Times.{Times}
+use Rattle.ss_command.specs.declared.table.Field.{Field}
+use Rattle.ss_command.specs.declared.table.Field.TheVariants as fields
+use Rattle.ss_command.specs.declared.table.Kinds.TheVariants as asked
+use Rattle.ss_command.specs.declared.table.Letter.{Letter}
+use Rattle.ss_command.specs.declared.table.Letter.TheVariants as letters
+use Rattle.ss_command.specs.declared.table.Row.{Row}
+use Rattle.ss_command.specs.declared.table.Row.TheVariants as rows
 use Rattle.ss_command.specs.declared.verb.Verb.{Verb}
 use Rattle.ss_command.specs.declared.verb.Verb.TheVariants as verbs
 
@@ -88,126 +95,138 @@ value-fits word v same =
 name-is : (word name : List ℕ) → name_of word ≡ Ok name → is_name name ≡ true
 name-is word name same = grind arith
 
--- a step that was read fits its bits
-within-step : (found : Option (List ℕ)) (within : Option ℕ) → within_of found ≡ Ok within → IsStepOfNumber within
-within-step None within same =
-    let is : None ≡ within = cc in
-    subst IsStepOfNumber is tt
-within-step (Some word) within same =
-    let step = bind-Ok (parameter_of word) _ within same in
-    let is : Some step.0 ≡ within = cc (step.2) in
-    subst IsStepOfNumber is (parameter-lt word step.0 step.1)
+-- times up to the last one, and parameters that fit 32 bits
+abbrev AreInTime : Times → Type 0
+AreInTime times = (times.from ≤ LAST_TIME) × (times.to ≤ LAST_TIME) × (times.step ≤ LAST_TIME)
 
-exp-sayable : (name : List ℕ) (ws : List (List ℕ)) (c : Command) → exp_of name ws ≡ Ok c → IsSayable c
-exp-sayable name [] c same = cc
-exp-sayable name (b ∷ []) c same = cc
-exp-sayable name (b ∷ r ∷ []) c same = cc
-exp-sayable name (b ∷ r ∷ s ∷ behind) c same =
-    let step = bind-Ok (within_word behind) _ c same in
-    let base = bind-Ok (parameter_of b) _ c step.2 in
-    let windows = bind-Ok (parameter_of r) _ c base.2 in
-    let scale = bind-Ok (parameter_of s) _ c windows.2 in
-    let within = bind-Ok (within_of step.0) _ c scale.2 in
-    let stream = bind-Ok (name_of name) _ c within.2 in
-    let is : commands.Do (Create stream.0 (record { family = Exp base.0 windows.0 scale.0; within = within.0 })) ≡ c = cc (stream.2) in
-    subst IsSayable is (
-      name-is name stream.0 stream.1,
-      ((parameter-lt b base.0 base.1, parameter-lt r windows.0 windows.1, parameter-lt s scale.0 scale.1), within-step step.0 within.0 within.1),
+abbrev AreSmall : Parameters → Type 0
+AreSmall p = (p.b < 2 ^ 32) × (p.p < 2 ^ 32) × (p.q < 2 ^ 32) × (p.r < 2 ^ 32) × (p.s < 2 ^ 32) × (p.e < 2 ^ 32)
+
+-- what is said is in its ranges, and of a kind that may be asked for
+abbrev IsInRange : (Kind → Bool) → Said → Type 0
+IsInRange may said = (may said.kind ≡ true) × FitsSigned w64 said.value × AreInTime said.times × AreSmall said.parameters
+
+-- only kinds that may be asked for are named in a place, or in those of a form
+abbrev IsOfKinds : (Kind → Bool) → Field → Type 0
+IsOfKinds may (fields.Kind asked) = (word : List ℕ) (kind : Kind) → kind_named asked word ≡ Some kind → may kind ≡ true
+IsOfKinds may _ = Unit {0}
+
+abbrev AreOfKinds : (Kind → Bool) → List Field → Type 0
+AreOfKinds may [] = Unit {0}
+AreOfKinds may (field ∷ form) = IsOfKinds may field × AreOfKinds may form
+
+kind-or : (may : Kind → Bool) (found : Option Kind) (old : Kind) → ((kind : Kind) → found ≡ Some kind → may kind ≡ true) → may old ≡ true →
+    may (unwrap_or found old) ≡ true
+kind-or may None old all was = was
+kind-or may (Some kind) old all was = all kind refl
+
+small-with : (letter : Letter) (n : ℕ) (old : Parameters) → n < 2 ^ 32 → AreSmall old → AreSmall (with_parameter letter n old)
+small-with letters.B n old small (b, p, q, r, s, e) = (small, p, q, r, s, e)
+small-with letters.P n old small (b, p, q, r, s, e) = (b, small, q, r, s, e)
+small-with letters.Q n old small (b, p, q, r, s, e) = (b, p, small, r, s, e)
+small-with letters.R n old small (b, p, q, r, s, e) = (b, p, q, small, s, e)
+small-with letters.S n old small (b, p, q, r, s, e) = (b, p, q, r, small, e)
+small-with letters.E n old small (b, p, q, r, s, e) = (b, p, q, r, s, small)
+
+-- a word that is read leaves what is said in its ranges
+field-in_range : (may : Kind → Bool) (field : Field) (word : List ℕ) (said after : Said) → IsOfKinds may field → IsInRange may said →
+    read_field field word said ≡ Ok after → IsInRange may after
+field-in_range may (fields.Fixed fixed) word said after of fine same =
+    let is : said ≡ after = cc in
+    subst (IsInRange may) is fine
+field-in_range may (fields.Kind asked) word said after of fine same =
+    let is : record said { kind = unwrap_or (kind_named asked word) said.kind } ≡ after = cc in
+    subst (IsInRange may) is (kind-or may (kind_named asked word) said.kind (of word) fine.0, fine.1, fine.2, fine.3)
+field-in_range may fields.End word said after of fine same =
+    let is : record said { end = unwrap_or (end_named word) said.end } ≡ after = cc in
+    subst (IsInRange may) is fine
+field-in_range may fields.Time word said after of fine same =
+    let t = bind-Ok (time_of word) _ after same in
+    let is : with_times said (record said.times { from = t.0 }) ≡ after = cc (t.2) in
+    subst (IsInRange may) is (fine.0, fine.1, (time-le word t.0 t.1, fine.2.1, fine.2.2), fine.3)
+field-in_range may fields.From word said after of fine same =
+    let t = bind-Ok (time_of word) _ after same in
+    let is : with_times said (record said.times { from = t.0 }) ≡ after = cc (t.2) in
+    subst (IsInRange may) is (fine.0, fine.1, (time-le word t.0 t.1, fine.2.1, fine.2.2), fine.3)
+field-in_range may fields.To word said after of fine same =
+    let t = bind-Ok (time_of word) _ after same in
+    let is : with_times said (record said.times { to = t.0 }) ≡ after = cc (t.2) in
+    subst (IsInRange may) is (fine.0, fine.1, (fine.2.0, time-le word t.0 t.1, fine.2.2), fine.3)
+field-in_range may fields.Step word said after of fine same =
+    let t = bind-Ok (time_of word) _ after same in
+    let is : with_times said (record said.times { step = t.0 }) ≡ after = cc (t.2) in
+    subst (IsInRange may) is (fine.0, fine.1, (fine.2.0, fine.2.1, time-le word t.0 t.1), fine.3)
+field-in_range may fields.Value word said after of fine same =
+    let v = bind-Ok (value_of word) _ after same in
+    let is : record said { value = v.0 } ≡ after = cc (v.2) in
+    subst (IsInRange may) is (fine.0, value-fits word v.0 v.1, fine.2, fine.3)
+field-in_range may (fields.Parameter letter) word said after of fine same =
+    let n = bind-Ok (parameter_of word) _ after same in
+    let is : record said { parameters = with_parameter letter n.0 said.parameters } ≡ after = cc (n.2) in
+    subst (IsInRange may) is (fine.0, fine.1, fine.2, small-with letter n.0 said.parameters (parameter-lt word n.0 n.1) fine.3)
+
+-- so do all words of a form
+fields-in_range : (may : Kind → Bool) (form : List Field) (ws : List (List ℕ)) (said after : Said) → AreOfKinds may form → IsInRange may said →
+    read_fields form ws said ≡ Ok after → IsInRange may after
+fields-in_range may [] ws said after of fine same =
+    let is : said ≡ after = cc in
+    subst (IsInRange may) is fine
+fields-in_range may (field ∷ form) [] said after of fine same =
+    let is : said ≡ after = cc in
+    subst (IsInRange may) is fine
+fields-in_range may (field ∷ form) (word ∷ ws) said after of fine same =
+    let first = bind-Ok (read_field field word said) _ after same in
+    fields-in_range may form ws first.0 after of.1 (field-in_range may field word said first.0 of.0 fine first.1) first.2
+
+-- what a form may ask for: what adds up in a certificate, and elsewhere what is said without a value
+abbrev may_ask : Row → Kind → Bool
+may_ask rows.Certify kind = adds_up kind
+may_ask _ kind = not (takes_value kind)
+
+all-alone : (word : List ℕ) (kind : Kind) → kind_named asked.All word ≡ Some kind → not (takes_value kind) ≡ true
+all-alone word kind same = grind arith
+
+guessed-alone : (word : List ℕ) (kind : Kind) → kind_named asked.Guessed word ≡ Some kind → not (takes_value kind) ≡ true
+guessed-alone word kind same = grind arith
+
+added-adds_up : (word : List ℕ) (kind : Kind) → kind_named asked.Added word ≡ Some kind → adds_up kind ≡ true
+added-adds_up word kind same = grind arith
+
+row-kinds : (row : Row) → AreOfKinds (may_ask row) (fields_of row)
+row-kinds rows.Exp = (tt, (tt, (tt, (tt, tt))))
+row-kinds rows.ExpWithin = (tt, (tt, (tt, (tt, (tt, (tt, tt))))))
+row-kinds rows.Power = (tt, (tt, (tt, (tt, (tt, tt)))))
+row-kinds rows.PowerWithin = (tt, (tt, (tt, (tt, (tt, (tt, (tt, tt)))))))
+row-kinds rows.Append = (tt, (tt, tt))
+row-kinds rows.Open = (tt, (tt, tt))
+row-kinds rows.Close = (tt, (tt, tt))
+row-kinds rows.Drop = tt
+row-kinds rows.Query = (all-alone, (tt, (tt, tt)))
+row-kinds rows.Has = (tt, (tt, (tt, (tt, tt))))
+row-kinds rows.Series = (all-alone, (tt, (tt, (tt, tt))))
+row-kinds rows.Windows = tt
+row-kinds rows.Certify = (added-adds_up, (tt, (tt, (tt, tt))))
+row-kinds rows.Last = tt
+row-kinds rows.Values = (tt, (tt, tt))
+row-kinds rows.Estimate = (guessed-alone, (tt, (tt, tt)))
+row-kinds rows.Estimates = (guessed-alone, (tt, (tt, (tt, tt))))
+
+may_ask-count : (row : Row) → may_ask row kinds.Count ≡ true
+may_ask-count rows.Certify = refl
+may_ask-count _ = refl
+
+nothing-in_range : (row : Row) → IsInRange (may_ask row) said_nothing
+nothing-in_range row =
+    let zero_fits : FitsSigned w64 (pos 0) = record { sfits = omega arith } in (
+      may_ask-count row,
+      zero_fits,
+      (omega arith, omega arith, omega arith),
+      (omega arith, omega arith, omega arith, omega arith, omega arith, omega arith),
     )
-
-power-sayable : (name : List ℕ) (ws : List (List ℕ)) (c : Command) → power_of name ws ≡ Ok c → IsSayable c
-power-sayable name [] c same = cc
-power-sayable name (p ∷ []) c same = cc
-power-sayable name (p ∷ q ∷ []) c same = cc
-power-sayable name (p ∷ q ∷ r ∷ []) c same = cc
-power-sayable name (p ∷ q ∷ r ∷ s ∷ behind) c same =
-    let step = bind-Ok (within_word behind) _ c same in
-    let power = bind-Ok (parameter_of p) _ c step.2 in
-    let widening = bind-Ok (parameter_of q) _ c power.2 in
-    let windows = bind-Ok (parameter_of r) _ c widening.2 in
-    let scale = bind-Ok (parameter_of s) _ c windows.2 in
-    let within = bind-Ok (within_of step.0) _ c scale.2 in
-    let stream = bind-Ok (name_of name) _ c within.2 in
-    let is : commands.Do (Create stream.0 (record { family = Power power.0 widening.0 windows.0 scale.0; within = within.0 })) ≡ c = cc (stream.2) in
-    subst IsSayable is (
-      name-is name stream.0 stream.1,
-      (
-        (parameter-lt p power.0 power.1, parameter-lt q widening.0 widening.1, parameter-lt r windows.0 windows.1, parameter-lt s scale.0 scale.1),
-        within-step step.0 within.0 within.1,
-      ),
-    )
-
-create-sayable : (ws : List (List ℕ)) (c : Command) → create_of ws ≡ Ok c → IsSayable c
-create-sayable [] c same = cc
-create-sayable (name ∷ []) c same = cc
-create-sayable (name ∷ family ∷ numbers) c same =
-    choice (IsSayable c) (is_word family (codes "exp")) _ _ c (exp-sayable name numbers c)
-    (choice (IsSayable c) (is_word family (codes "power")) _ _ c (power-sayable name numbers c) (λ wrong. cc (wrong)))
-    same
-
-append-sayable : (ws : List (List ℕ)) (c : Command) → append_of ws ≡ Ok c → IsSayable c
-append-sayable [] c same = cc
-append-sayable (name ∷ []) c same = cc
-append-sayable (name ∷ time ∷ []) c same = cc
-append-sayable (name ∷ time ∷ value ∷ []) c same =
-    let t = bind-Ok (time_of time) _ c same in
-    let v = bind-Ok (value_of value) _ c t.2 in
-    let stream = bind-Ok (name_of name) _ c v.2 in
-    let is : commands.Do (Value stream.0 t.0 v.0) ≡ c = cc (stream.2) in
-    subst IsSayable is (name-is name stream.0 stream.1, time-le time t.0 t.1, value-fits value v.0 v.1)
-append-sayable (name ∷ time ∷ value ∷ more ∷ rest) c same = cc
-
-open-sayable : (name time : List ℕ) (c : Command) → open_of name time ≡ Ok c → IsSayable c
-open-sayable name time c same =
-    let t = bind-Ok (time_of time) _ c same in
-    let stream = bind-Ok (name_of name) _ c t.2 in
-    let is : commands.Do (Open stream.0 t.0) ≡ c = cc (stream.2) in
-    subst IsSayable is (name-is name stream.0 stream.1, time-le time t.0 t.1)
-
-close-sayable : (name time : List ℕ) (c : Command) → close_of name time ≡ Ok c → IsSayable c
-close-sayable name time c same =
-    let t = bind-Ok (time_of time) _ c same in
-    let stream = bind-Ok (name_of name) _ c t.2 in
-    let is : commands.Do (Close stream.0 t.0) ≡ c = cc (stream.2) in
-    subst IsSayable is (name-is name stream.0 stream.1, time-le time t.0 t.1)
-
-landmark-sayable : (ws : List (List ℕ)) (c : Command) → landmark_of ws ≡ Ok c → IsSayable c
-landmark-sayable [] c same = cc
-landmark-sayable (name ∷ []) c same = cc
-landmark-sayable (name ∷ change ∷ []) c same = cc
-landmark-sayable (name ∷ change ∷ time ∷ []) c same =
-    choice (IsSayable c) (is_word change (codes "open")) _ _ c (open-sayable name time c)
-    (choice (IsSayable c) (is_word change (codes "close")) _ _ c (close-sayable name time c) (λ wrong. cc (wrong)))
-    same
-landmark-sayable (name ∷ change ∷ time ∷ more ∷ rest) c same = cc
-
-drop-sayable : (ws : List (List ℕ)) (c : Command) → drop_of ws ≡ Ok c → IsSayable c
-drop-sayable [] c same = cc
-drop-sayable (name ∷ []) c same =
-    let stream = bind-Ok (name_of name) _ c same in
-    let is : commands.Do (Drop stream.0) ≡ c = cc (stream.2) in
-    subst IsSayable is (name-is name stream.0 stream.1)
-drop-sayable (name ∷ more ∷ rest) c same = cc
-
-has-sayable : (name : List ℕ) (ws : List (List ℕ)) (c : Command) → has_of name ws ≡ Ok c → IsSayable c
-has-sayable name [] c same = cc
-has-sayable name (value ∷ []) c same = cc
-has-sayable name (value ∷ first ∷ []) c same = cc
-has-sayable name (value ∷ first ∷ last ∷ []) c same =
-    let v = bind-Ok (value_of value) _ c same in
-    let from = bind-Ok (time_of first) _ c v.2 in
-    let to = bind-Ok (time_of last) _ c from.2 in
-    let stream = bind-Ok (name_of name) _ c to.2 in
-    let is : commands.Ask (record { name = stream.0; kind = kinds.Has v.0; from = from.0; to = to.0 }) ≡ c = cc (stream.2) in
-    subst IsSayable is (name-is name stream.0 stream.1, (time-le first from.0 from.1, time-le last to.0 to.1), value-fits value v.0 v.1)
-has-sayable name (value ∷ first ∷ last ∷ more ∷ rest) c same = cc
 
 -- what a word alone asks for takes no value, so it fits
-kind-alone : (word : List ℕ) (kind : Kind) → asked_kind_of word ≡ Ok kind → takes_value kind ≡ false
-kind-alone word kind same = grind arith
-
-guess-alone : (word : List ℕ) (kind : Kind) → guessed_of word ≡ Ok kind → takes_value kind ≡ false
-guess-alone word kind same = grind arith
+takes-none : (kind : Kind) → not (takes_value kind) ≡ true → takes_value kind ≡ false
+takes-none kind alone = grind arith
 
 alone-fits : (kind : Kind) → takes_value kind ≡ false → IsKindOfValues kind
 alone-fits kinds.Count alone = tt
@@ -218,143 +237,72 @@ alone-fits (kinds.Has value) alone = cc
 alone-fits kinds.CountGuess alone = tt
 alone-fits kinds.SumGuess alone = tt
 
-figure-sayable : (name : List ℕ) (kind : Kind) (ws : List (List ℕ)) (c : Command) → takes_value kind ≡ false → figure_of name kind ws ≡ Ok c
-    → IsSayable c
-figure-sayable name kind [] c alone same = cc
-figure-sayable name kind (first ∷ []) c alone same = cc
-figure-sayable name kind (first ∷ last ∷ []) c alone same =
-    let from = bind-Ok (time_of first) _ c same in
-    let to = bind-Ok (time_of last) _ c from.2 in
-    let stream = bind-Ok (name_of name) _ c to.2 in
-    let is : commands.Ask (record { name = stream.0; kind = kind; from = from.0; to = to.0 }) ≡ c = cc (stream.2) in
-    subst IsSayable is (name-is name stream.0 stream.1, (time-le first from.0 from.1, time-le last to.0 to.1), alone-fits kind alone)
-figure-sayable name kind (first ∷ last ∷ more ∷ rest) c alone same = cc
+-- a form in rows has as many as it may
+with_few_rows-split : (in_rows few : Bool) (said after : Said) →
+    (if in_rows then (if few then Ok said else Err refusals.Number) else Ok said) ≡ Ok after → (said ≡ after) × (in_rows ≡ true → few ≡ true)
+with_few_rows-split true true said after same = (cc, λ is. refl)
+with_few_rows-split true false said after same = cc
+with_few_rows-split false few said after same = (cc, λ is. cc)
 
--- what is said of any kind that is read from a word
-by-kind : (asked : Result Kind Refusal) (next : Kind → Result Command Refusal) (c : Command)
-    → ((kind : Kind) → asked ≡ Ok kind → next kind ≡ Ok c → IsSayable c) → (asked >>= next) ≡ Ok c → IsSayable c
-by-kind asked next c each same = let kind = bind-Ok asked next c same in each kind.0 kind.1 kind.2
+-- a step that cuts its range into rows
+has_rows-is : (said : Said) → has_rows said ≡ true →
+    (0 < said.times.step) × (rows_in said.times.from said.times.to said.times.step ≤ MOST_ROWS)
+has_rows-is said has = grind (arith, nat_tests)
 
-query-sayable : (ws : List (List ℕ)) (c : Command) → query_of ws ≡ Ok c → IsSayable c
-query-sayable [] c same = cc
-query-sayable (name ∷ []) c same = cc
-query-sayable (name ∷ asked ∷ rest) c same =
-    choice (IsSayable c) (is_word asked (codes "has")) _ _ c (has-sayable name rest c)
-    (by-kind (asked_kind_of asked) _ c (λ kind is. figure-sayable name kind rest c (kind-alone asked kind is))) same
+-- the command of a form can be said
+commanded-sayable : (row : Row) (name : List ℕ) (said : Said) → is_name name ≡ true → IsInRange (may_ask row) said →
+    (is_in_rows row ≡ true → has_rows said ≡ true) → IsSayable (commanded row name said)
+commanded-sayable rows.Exp name said is (kind, value, times, (b, p, q, r, s, e)) rowed = (is, ((b, r, s), tt))
+commanded-sayable rows.ExpWithin name said is (kind, value, times, (b, p, q, r, s, e)) rowed = (is, ((b, r, s), e))
+commanded-sayable rows.Power name said is (kind, value, times, (b, p, q, r, s, e)) rowed = (is, ((p, q, r, s), tt))
+commanded-sayable rows.PowerWithin name said is (kind, value, times, (b, p, q, r, s, e)) rowed = (is, ((p, q, r, s), e))
+commanded-sayable rows.Append name said is (kind, value, times, parameters) rowed = (is, times.0, value)
+commanded-sayable rows.Open name said is (kind, value, times, parameters) rowed = (is, times.0)
+commanded-sayable rows.Close name said is (kind, value, times, parameters) rowed = (is, times.0)
+commanded-sayable rows.Drop name said is fine rowed = is
+commanded-sayable rows.Query name said is (kind, value, times, parameters) rowed =
+    (is, (times.0, times.1), alone-fits said.kind (takes-none said.kind kind))
+commanded-sayable rows.Has name said is (kind, value, times, parameters) rowed = (is, (times.0, times.1), value)
+commanded-sayable rows.Series name said is (kind, value, times, parameters) rowed =
+    let rows = has_rows-is said (rowed refl) in
+    (is, record { from = times.0; to = times.1; some = rows.0; step = times.2; few = rows.1 }, takes-none said.kind kind)
+commanded-sayable rows.Windows name said is fine rowed = is
+commanded-sayable rows.Certify name said is (kind, value, times, parameters) rowed = (is, (times.0, times.1), kind)
+commanded-sayable rows.Last name said is fine rowed = is
+commanded-sayable rows.Values name said is (kind, value, times, parameters) rowed = (is, times.0, times.1)
+commanded-sayable rows.Estimate name said is (kind, value, times, parameters) rowed =
+    (is, (times.0, times.1), alone-fits said.kind (takes-none said.kind kind))
+commanded-sayable rows.Estimates name said is (kind, value, times, parameters) rowed =
+    let rows = has_rows-is said (rowed refl) in
+    (is, record { from = times.0; to = times.1; some = rows.0; step = times.2; few = rows.1 }, takes-none said.kind kind)
 
-estimate-sayable : (ws : List (List ℕ)) (c : Command) → estimate_of ws ≡ Ok c → IsSayable c
-estimate-sayable [] c same = cc
-estimate-sayable (name ∷ []) c same = cc
-estimate-sayable (name ∷ asked ∷ rest) c same =
-    by-kind (guessed_of asked) _ c (λ kind is. figure-sayable name kind rest c (guess-alone asked kind is)) same
+row-sayable : (row : Row) (name : List ℕ) (rest : List (List ℕ)) (c : Command) → row_means row name rest ≡ Ok c → IsSayable c
+row-sayable row name rest c same =
+    let read = bind-Ok (read_fields (fields_of row) rest said_nothing) _ c same in
+    let said = bind-Ok (with_few_rows row read.0) _ c read.2 in
+    let stream = bind-Ok (name_of name) _ c said.2 in
+    let is : commanded row stream.0 said.0 ≡ c = cc (stream.2) in
+    let both = with_few_rows-split (is_in_rows row) (has_rows read.0) read.0 said.0 said.1 in
+    let fine = fields-in_range (may_ask row) (fields_of row) rest said_nothing read.0 (row-kinds row) (nothing-in_range row) read.1 in
+    subst IsSayable is (subst (λ (s : Said). IsSayable (commanded row stream.0 s)) both.0
+    (commanded-sayable row stream.0 read.0 (name-is name stream.0 stream.1) fine both.1))
 
--- a step that was read cuts its range into rows
-step-rows : (from to step : ℕ) (word : List ℕ) → series_step_of from to word ≡ Ok step →
-    (0 < step) × (step ≤ LAST_TIME) × (rows_in from to step ≤ MOST_ROWS)
-step-rows from to step word same =
-    let read = bind-Ok (time_of word) _ step same in
-    let bound = time-le word read.0 read.1 in
-    grind (arith, nat_tests)
+found-sayable : (found : Option Row) (name : List ℕ) (rest : List (List ℕ)) (c : Command) →
+    option_map_or (λ row. row_means row name rest) found (Err refusals.Syntax) ≡ Ok c → IsSayable c
+found-sayable None name rest c same = cc
+found-sayable (Some row) name rest c same = row-sayable row name rest c same
 
-steps-sayable : (name : List ℕ) (kind : Kind) (ws : List (List ℕ)) (c : Command) → takes_value kind ≡ false → steps_of name kind ws ≡ Ok c
-    → IsSayable c
-steps-sayable name kind [] c alone same = cc
-steps-sayable name kind (first ∷ []) c alone same = cc
-steps-sayable name kind (first ∷ last ∷ []) c alone same = cc
-steps-sayable name kind (first ∷ last ∷ width ∷ []) c alone same =
-    let from = bind-Ok (time_of first) _ c same in
-    let to = bind-Ok (time_of last) _ c from.2 in
-    let step = bind-Ok (series_step_of from.0 to.0 width) _ c to.2 in
-    let stream = bind-Ok (name_of name) _ c step.2 in
-    let is : commands.Series (record { name = stream.0; kind = kind; from = from.0; to = to.0; step = step.0 }) ≡ c = cc (stream.2) in
-    let rows = step-rows from.0 to.0 step.0 width step.1 in
-    subst IsSayable is (
-      name-is name stream.0 stream.1,
-      record { from = time-le first from.0 from.1; to = time-le last to.0 to.1; some = rows.0; step = rows.1; few = rows.2 },
-      alone,
-    )
-steps-sayable name kind (first ∷ last ∷ width ∷ more ∷ rest) c alone same = cc
-
-series-sayable : (ws : List (List ℕ)) (c : Command) → series_of ws ≡ Ok c → IsSayable c
-series-sayable [] c same = cc
-series-sayable (name ∷ []) c same = cc
-series-sayable (name ∷ asked ∷ rest) c same =
-    by-kind (asked_kind_of asked) _ c (λ kind is. steps-sayable name kind rest c (kind-alone asked kind is)) same
-
-estimates-sayable : (ws : List (List ℕ)) (c : Command) → estimates_of ws ≡ Ok c → IsSayable c
-estimates-sayable [] c same = cc
-estimates-sayable (name ∷ []) c same = cc
-estimates-sayable (name ∷ asked ∷ rest) c same =
-    by-kind (guessed_of asked) _ c (λ kind is. steps-sayable name kind rest c (guess-alone asked kind is)) same
-
-windows-sayable : (ws : List (List ℕ)) (c : Command) → windows_of ws ≡ Ok c → IsSayable c
-windows-sayable [] c same = cc
-windows-sayable (name ∷ []) c same =
-    let stream = bind-Ok (name_of name) _ c same in
-    let is : commands.Windows stream.0 ≡ c = cc (stream.2) in
-    subst IsSayable is (name-is name stream.0 stream.1)
-windows-sayable (name ∷ more ∷ rest) c same = cc
+named-sayable : (verb : Verb) (ws : List (List ℕ)) (c : Command) → named_of verb ws ≡ Ok c → IsSayable c
+named-sayable verb [] c same = cc
+named-sayable verb (name ∷ rest) c same = found-sayable (row_for (forms_of verb) rest) name rest c same
 
 list-sayable : (ws : List (List ℕ)) (c : Command) → list_of ws ≡ Ok c → IsSayable c
 list-sayable [] c same = let is : commands.List ≡ c = cc in subst IsSayable is tt
 list-sayable (more ∷ rest) c same = cc
 
--- what is asked for where it is to add up does so
-added-adds_up : (word : List ℕ) (kind : Kind) → added_of word ≡ Ok kind → adds_up kind ≡ true
-added-adds_up word kind same =
-    let read = bind-Ok (asked_kind_of word) _ kind same in
-    grind arith
-
-certify-sayable : (ws : List (List ℕ)) (c : Command) → certify_of ws ≡ Ok c → IsSayable c
-certify-sayable [] c same = cc
-certify-sayable (name ∷ []) c same = cc
-certify-sayable (name ∷ asked ∷ []) c same = cc
-certify-sayable (name ∷ asked ∷ side ∷ []) c same = cc
-certify-sayable (name ∷ asked ∷ side ∷ first ∷ []) c same = cc
-certify-sayable (name ∷ asked ∷ side ∷ first ∷ last ∷ []) c same =
-    let kind = bind-Ok (added_of asked) _ c same in
-    let end = bind-Ok (end_of side) _ c kind.2 in
-    let from = bind-Ok (time_of first) _ c end.2 in
-    let to = bind-Ok (time_of last) _ c from.2 in
-    let stream = bind-Ok (name_of name) _ c to.2 in
-    let is : commands.Certify (record { name = stream.0; kind = kind.0; from = from.0; to = to.0 }) end.0 ≡ c = cc (stream.2) in
-    subst IsSayable is (name-is name stream.0 stream.1, (time-le first from.0 from.1, time-le last to.0 to.1), added-adds_up asked kind.0 kind.1)
-certify-sayable (name ∷ asked ∷ side ∷ first ∷ last ∷ more ∷ rest) c same = cc
-
-last-sayable : (ws : List (List ℕ)) (c : Command) → last_of ws ≡ Ok c → IsSayable c
-last-sayable [] c same = cc
-last-sayable (name ∷ []) c same =
-    let stream = bind-Ok (name_of name) _ c same in
-    let is : commands.Last stream.0 ≡ c = cc (stream.2) in
-    subst IsSayable is (name-is name stream.0 stream.1)
-last-sayable (name ∷ more ∷ rest) c same = cc
-
-values-sayable : (ws : List (List ℕ)) (c : Command) → values_form_of ws ≡ Ok c → IsSayable c
-values-sayable [] c same = cc
-values-sayable (name ∷ []) c same = cc
-values-sayable (name ∷ first ∷ []) c same = cc
-values-sayable (name ∷ first ∷ last ∷ []) c same =
-    let from = bind-Ok (time_of first) _ c same in
-    let to = bind-Ok (time_of last) _ c from.2 in
-    let stream = bind-Ok (name_of name) _ c to.2 in
-    let is : commands.Values stream.0 from.0 to.0 ≡ c = cc (stream.2) in
-    subst IsSayable is (name-is name stream.0 stream.1, time-le first from.0 from.1, time-le last to.0 to.1)
-values-sayable (name ∷ first ∷ last ∷ more ∷ rest) c same = cc
-
 form-sayable : (verb : Option Verb) (rest : List (List ℕ)) (c : Command) → form_of verb rest ≡ Ok c → IsSayable c
-form-sayable (Some verbs.Create) = create-sayable
-form-sayable (Some verbs.Append) = append-sayable
-form-sayable (Some verbs.Landmark) = landmark-sayable
-form-sayable (Some verbs.Drop) = drop-sayable
-form-sayable (Some verbs.Query) = query-sayable
-form-sayable (Some verbs.Series) = series-sayable
-form-sayable (Some verbs.Windows) = windows-sayable
 form-sayable (Some verbs.List) = list-sayable
-form-sayable (Some verbs.Certify) = certify-sayable
-form-sayable (Some verbs.Last) = last-sayable
-form-sayable (Some verbs.Values) = values-sayable
-form-sayable (Some verbs.Estimate) = estimate-sayable
-form-sayable (Some verbs.Estimates) = estimates-sayable
+form-sayable (Some verb) = named-sayable verb
 form-sayable None = λ rest c same. cc (same)
 
 words-sayable : (ws : List (List ℕ)) (c : Command) → meaning_of_words ws ≡ Ok (Some c) → IsSayable c
@@ -371,3 +319,18 @@ meant-sayable line c same =
     choice (IsSayable c) (nat_lt LONGEST_LINE (length line)) _ _ (Some c) (λ wrong. cc (wrong))
     (choice (IsSayable c) (is_comment line) _ _ (Some c) (λ wrong. cc (wrong)) (words-sayable (words line) c))
     same
+
+-- and one whose times are no later than the last one
+pub sayable-in_time : (c : Command) → IsSayable c → IsCommandInTime c
+sayable-in_time (commands.Do (Create name params)) sayable = tt
+sayable-in_time (commands.Do (Value name t v)) sayable = sayable.1
+sayable-in_time (commands.Do (Open name t)) sayable = sayable.1
+sayable-in_time (commands.Do (Close name t)) sayable = sayable.1
+sayable-in_time (commands.Do (Drop name)) sayable = tt
+sayable-in_time (commands.Ask query) sayable = sayable.1
+sayable-in_time (commands.Series series) sayable = (sayable.1, sayable.2)
+sayable-in_time (commands.Windows name) sayable = tt
+sayable-in_time commands.List sayable = tt
+sayable-in_time (commands.Certify query end) sayable = (sayable.1, sayable.2)
+sayable-in_time (commands.Last name) sayable = tt
+sayable-in_time (commands.Values name from to) sayable = (sayable.1, sayable.2)

@@ -3,3 +3,5 @@ pub mod LineState
 pub mod Words
 pub mod Grammar
 pub mod Printed
+pub mod Said
+pub mod Table

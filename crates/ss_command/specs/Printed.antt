@@ -1,10 +1,10 @@
 -- How a command is printed.
-use Rattle.std.specs.Prelude.{◌≡◌, ℕ, ◌≤◌, ◌<◌, ◌^◌, Bool, true, false, List, [], ◌∷◌, ◌++◌, fold, codes, FitsSigned, Option, Some, None}
+use Rattle.std.specs.Prelude.{◌≡◌, ℕ, ◌≤◌, ◌<◌, ◌^◌, Bool, true, false, List, [], ◌∷◌, ◌++◌, map, fold, codes, if◌then◌else◌, FitsSigned, Option, Some, None, ℤ}
 use Rattle.std.specs.Fmt.{decimal, signed_decimal}
 use Rattle.std.specs.Int.{w64}
 use Rattle.ss_catalog.specs.Events.{IsInTime}
 use Rattle.ss_catalog.specs.Names.{is_name}
-use Rattle.ss_catalog.specs.Queries.{IsKindOfValues, IsQueryInTime, adds_up, end_name, kind_name, query_verb, series_verb}
+use Rattle.ss_catalog.specs.Queries.{IsKindOfValues, IsQueryInTime, adds_up, end_name, is_guess, kind_name}
 use Rattle.ss_catalog.specs.Series.{IsSeriesInRange}
 use Rattle.ss_base.specs.declared.limits.TheConstants.{LAST_TIME}
 use Rattle.ss_catalog.specs.declared.event.Event.TheVariants.{Create, Value, Open, Close, Drop}
@@ -13,8 +13,20 @@ use Rattle.ss_catalog.specs.declared.params.Family.TheVariants.{Exp, Power}
 use Rattle.ss_catalog.specs.declared.params.Params.{Params}
 use Rattle.ss_catalog.specs.declared.query.Kind.{Kind}
 use Rattle.ss_catalog.specs.declared.query.Kind.TheVariants as kinds
+use Rattle.ss_catalog.specs.declared.query.Query.{Query}
+use Rattle.ss_catalog.specs.declared.series.Series.{Series}
+use Rattle.ss_command.specs.Said.{said_nothing}
+use Rattle.ss_command.specs.Table.{fields_of, fixed_word}
 use Rattle.ss_command.specs.declared.command.Command.{Command}
 use Rattle.ss_command.specs.declared.command.Command.TheVariants as commands
+use Rattle.ss_command.specs.declared.said.Parameters.{Parameters}
+use Rattle.ss_command.specs.declared.said.Said.{Said}
+use Rattle.ss_command.specs.declared.table.Field.{Field}
+use Rattle.ss_command.specs.declared.table.Field.TheVariants as fields
+use Rattle.ss_command.specs.declared.table.Letter.{Letter}
+use Rattle.ss_command.specs.declared.table.Letter.TheVariants.{B, P, Q, R, S, E}
+use Rattle.ss_command.specs.declared.table.Row.{Row}
+use Rattle.ss_command.specs.declared.table.Row.TheVariants as rows
 
 -- a text with one more word, after one space
 abbrev pub with_word : List ℕ → List ℕ → List ℕ
@@ -38,16 +50,6 @@ target_words params = family_words params.family ++ within_words params.within
 abbrev pub spaced : List ℕ → List (List ℕ) → List ℕ
 spaced first rest = fold with_word first rest
 
--- the words that say what is asked for: its name, and of `has` the value too
-abbrev pub kind_words : Kind → List (List ℕ)
-kind_words kinds.Count = kind_name kinds.Count ∷ []
-kind_words kinds.Sum = kind_name kinds.Sum ∷ []
-kind_words kinds.Min = kind_name kinds.Min ∷ []
-kind_words kinds.Max = kind_name kinds.Max ∷ []
-kind_words (kinds.Has value) = kind_name (kinds.Has value) ∷ signed_decimal value ∷ []
-kind_words kinds.CountGuess = kind_name kinds.CountGuess ∷ []
-kind_words kinds.SumGuess = kind_name kinds.SumGuess ∷ []
-
 -- what is asked for is said with a value
 abbrev pub takes_value : Kind → Bool
 takes_value kinds.Count = false
@@ -58,22 +60,105 @@ takes_value (kinds.Has value) = true
 takes_value kinds.CountGuess = false
 takes_value kinds.SumGuess = false
 
--- a command as it is printed: its words with one space between them, numbers without leading zeros
+-- the first word of a form
+abbrev pub verb_word : Row → List ℕ
+verb_word rows.Exp = codes "create"
+verb_word rows.ExpWithin = codes "create"
+verb_word rows.Power = codes "create"
+verb_word rows.PowerWithin = codes "create"
+verb_word rows.Append = codes "append"
+verb_word rows.Open = codes "landmark"
+verb_word rows.Close = codes "landmark"
+verb_word rows.Drop = codes "drop"
+verb_word rows.Query = codes "query"
+verb_word rows.Has = codes "query"
+verb_word rows.Series = codes "series"
+verb_word rows.Windows = codes "windows"
+verb_word rows.Certify = codes "certify"
+verb_word rows.Last = codes "last"
+verb_word rows.Values = codes "values"
+verb_word rows.Estimate = codes "estimate"
+verb_word rows.Estimates = codes "estimates"
+
+-- a parameter, by its letter
+abbrev pub parameter : Letter → Parameters → ℕ
+parameter B parameters = parameters.b
+parameter P parameters = parameters.p
+parameter Q parameters = parameters.q
+parameter R parameters = parameters.r
+parameter S parameters = parameters.s
+parameter E parameters = parameters.e
+
+-- the word in the place of a field, of what is said
+abbrev pub word_in : Said → Field → List ℕ
+word_in said (fields.Fixed fixed) = fixed_word fixed
+word_in said (fields.Kind asked) = kind_name said.kind
+word_in said fields.End = end_name said.end
+word_in said fields.Time = decimal said.times.from
+word_in said fields.From = decimal said.times.from
+word_in said fields.To = decimal said.times.to
+word_in said fields.Step = decimal said.times.step
+word_in said fields.Value = signed_decimal said.value
+word_in said (fields.Parameter letter) = decimal (parameter letter said.parameters)
+
+-- a line of a form, of what is said: its words with one space between them, numbers without leading zeros
+abbrev pub form_line : Row → List ℕ → Said → List ℕ
+form_line row name said = spaced (verb_word row) (name ∷ map (λ field. word_in said field) (fields_of row))
+
+-- the parameters that a family says
+abbrev pub family_said : Family → Parameters
+family_said (Exp b r s) = record { b = b; p = 0; q = 0; r = r; s = s; e = 0 }
+family_said (Power p q r s) = record { b = 0; p = p; q = q; r = r; s = s; e = 0 }
+
+-- the form of a target, and the parameters that it says
+abbrev pub target_row : Family → Option ℕ → Row
+target_row (Exp b r s) None = rows.Exp
+target_row (Exp b r s) (Some e) = rows.ExpWithin
+target_row (Power p q r s) None = rows.Power
+target_row (Power p q r s) (Some e) = rows.PowerWithin
+
+abbrev pub target_said : Family → Option ℕ → Parameters
+target_said family None = family_said family
+target_said family (Some e) = record (family_said family) { e = e }
+
+-- what parameters say, one time, a value at a time, a range, and one in rows
+abbrev pub said_parameters : Parameters → Said
+said_parameters parameters = record said_nothing { parameters = parameters }
+
+abbrev pub said_time : ℕ → Said
+said_time t = record said_nothing { times = record { from = t; to = 0; step = 0 } }
+
+abbrev pub said_value : ℕ → ℤ → Said
+said_value t v = record (said_time t) { value = v }
+
+abbrev pub said_range : Kind → ℕ → ℕ → Said
+said_range kind from to = record said_nothing { kind = kind; times = record { from = from; to = to; step = 0 } }
+
+abbrev pub said_rows : Series → Said
+said_rows series = record said_nothing { kind = series.kind; times = record { from = series.from; to = series.to; step = series.step } }
+
+-- a query as it is printed, by what it asks for
+abbrev pub printed_query : Query → Kind → List ℕ
+printed_query query (kinds.Has value) = form_line rows.Has query.name (record (said_range kinds.Count query.from query.to) { value = value })
+printed_query query kinds.CountGuess = form_line rows.Estimate query.name (said_range kinds.CountGuess query.from query.to)
+printed_query query kinds.SumGuess = form_line rows.Estimate query.name (said_range kinds.SumGuess query.from query.to)
+printed_query query kind = form_line rows.Query query.name (said_range kind query.from query.to)
+
+-- a command as it is printed: by its form
 unfoldable pub printed : Command → List ℕ
-printed (commands.Do (Create name params)) = spaced (codes "create") (name ∷ target_words params)
-printed (commands.Do (Value name t v)) = spaced (codes "append") (name ∷ decimal t ∷ signed_decimal v ∷ [])
-printed (commands.Do (Open name t)) = spaced (codes "landmark") (name ∷ codes "open" ∷ decimal t ∷ [])
-printed (commands.Do (Close name t)) = spaced (codes "landmark") (name ∷ codes "close" ∷ decimal t ∷ [])
-printed (commands.Do (Drop name)) = spaced (codes "drop") (name ∷ [])
-printed (commands.Ask query) = spaced (query_verb query.kind) (query.name ∷ kind_words query.kind ++ decimal query.from ∷ decimal query.to ∷ [])
-printed (commands.Series series) =
-    spaced (series_verb series.kind) (series.name ∷ kind_name series.kind ∷ decimal series.from ∷ decimal series.to ∷ decimal series.step ∷ [])
-printed (commands.Windows name) = spaced (codes "windows") (name ∷ [])
+printed (commands.Do (Create name params)) =
+    form_line (target_row params.family params.within) name (said_parameters (target_said params.family params.within))
+printed (commands.Do (Value name t v)) = form_line rows.Append name (said_value t v)
+printed (commands.Do (Open name t)) = form_line rows.Open name (said_time t)
+printed (commands.Do (Close name t)) = form_line rows.Close name (said_time t)
+printed (commands.Do (Drop name)) = form_line rows.Drop name said_nothing
+printed (commands.Ask query) = printed_query query query.kind
+printed (commands.Series series) = form_line (if is_guess series.kind then rows.Estimates else rows.Series) series.name (said_rows series)
+printed (commands.Windows name) = form_line rows.Windows name said_nothing
 printed commands.List = codes "list"
-printed (commands.Certify query end) =
-    spaced (codes "certify") (query.name ∷ kind_name query.kind ∷ end_name end ∷ decimal query.from ∷ decimal query.to ∷ [])
-printed (commands.Last name) = spaced (codes "last") (name ∷ [])
-printed (commands.Values name from to) = spaced (codes "values") (name ∷ decimal from ∷ decimal to ∷ [])
+printed (commands.Certify query end) = form_line rows.Certify query.name (record (said_range query.kind query.from query.to) { end = end })
+printed (commands.Last name) = form_line rows.Last name said_nothing
+printed (commands.Values name from to) = form_line rows.Values name (said_range kinds.Count from to)
 
 -- the parameters of a family fit 32 bits
 abbrev pub IsFamilyOfNumbers : Family → Type 0

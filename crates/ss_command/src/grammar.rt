@@ -1,411 +1,187 @@
 // What a line means.
-ghost use Rattle.std.specs.Prelude.{◌≡◌, ◌≤◌, length, codes, true, false, None, Ok, Err, Some, IfOk, IfSome, MatchOption, MatchResult};
-ghost use Rattle.ss_catalog.specs.Queries.{adds_up};
-ghost use Rattle.ss_command.specs.Grammar.{added_of, append_of, certify_of, close_of, command_of, create_of, drop_of, end_of, estimate_of, exp_of};
-ghost use Rattle.ss_command.specs.Grammar.{estimates_of, figure_of, guessed_of, has_of, is_comment, asked_kind_of, landmark_of, last_of, list_of, meaning};
-ghost use Rattle.ss_command.specs.Grammar.{open_of, power_of, query_of, series_of, steps_of, values_form_of, windows_of, within_word};
-ghost use Rattle.ss_command.specs.Printed.{IsCommandInTime, IsSayable, takes_value};
+ghost use Rattle.std.specs.Prelude.{◌≡◌, ◌≤◌, length, codes, true, false, None, Ok, Err, Some, IfOk, IfSome, IsTrue};
+ghost use Rattle.ss_command.specs.Grammar.{command_of, commanded, exp_said, has_rows, is_comment, is_in_rows, list_of, meaning, named_of, power_said};
+ghost use Rattle.ss_command.specs.Grammar.{query_said, row_means, series_said, with_few_rows};
+ghost use Rattle.ss_command.specs.Printed.{IsCommandInTime, IsSayable};
+ghost use Rattle.ss_command.specs.Words.{words};
 
 use crate::command::Command;
-use crate::numbers::{read_name, read_parameter, read_step, read_time, read_value, read_within};
+use crate::numbers::read_name;
+use crate::said::{Said, read_fields};
+use crate::table::{Row, forms_of, row_for};
 use crate::verb::{Verb, verb_of};
-use crate::words::{Words, is_word};
+use crate::words::{Words, cut_first};
 use crate::{COMMENT, LONGEST_LINE};
-use ss_catalog::{End, Event, Family, Kind, Params, Query, Refusal, Series};
+use ss_base::LAST_TIME;
+use ss_catalog::{Event, Family, Kind, MOST_ROWS, Name, Params, Query, Refusal, Series, rows_in};
 
-// The word of the step where `within E` stands behind the parameters of a family. Nothing else may stand there.
-fn within_word<'a>(mut words: Words<'a>) -> Result<Option<&'a [u8]>, Refusal>
-    ensures { MatchResult result (λ found. MatchOption found (within_word words.entry ≡ Ok None) (λ step. within_word words.entry ≡ Ok (Some step.now)))
-        (λ refusal. within_word words.entry ≡ Err refusal) }
+// Whether a form asks for rows of a step.
+fn is_in_rows(row: Row) -> bool
+    ensures { result ≡ is_in_rows row }
 {
-    match words.next() {
-        None => Ok(None),
-        Some(word) => {
-            let step = words.word()?;
-            words.end()?;
-            if is_word(word, "within") {
-                Ok(Some(step))
-            } else {
-                Err(Refusal::Syntax)
-            }
-        }
-    }
+    matches!(row, Row::Series | Row::Estimates)
 }
 
-// Reads `create NAME exp B R S`, from B on, also with `within E` behind it.
-fn exp(name: &[u8], mut words: Words) -> Result<Command, Refusal>
-    ensures meaning { result ≡ exp_of name.now words.entry }
-    ensures time { IfOk result IsCommandInTime }
+// Whether a step isn't 0, nor so short that there are more rows than a series may have.
+fn has_rows(said: &Said) -> bool
+    requires { said.now.times.to ≤ LAST_TIME }
+    ensures { result ≡ has_rows said.now }
 {
-    let base = words.word()?;
-    let repeat = words.word()?;
-    let scale = words.word()?;
-    let step = within_word(words)?;
-    let b = read_parameter(base)?;
-    let r = read_parameter(repeat)?;
-    let s = read_parameter(scale)?;
-    let within = read_within(step)?;
-    let name = read_name(name)?;
-    let family = Family::Exp { b, r, s };
-    let params = Params { family, within };
-    Ok(Command::Do(Event::Create { name, params }))
+    let times = &said.times;
+    times.step > 0 && rows_in(times.from, times.to, times.step) <= u64::from(MOST_ROWS)
 }
 
-// Reads `create NAME power P Q R S`, from P on, also with `within E` behind it.
-fn power(name: &[u8], mut words: Words) -> Result<Command, Refusal>
-    ensures meaning { result ≡ power_of name.now words.entry }
-    ensures time { IfOk result IsCommandInTime }
+// What was said, where a form in rows has neither a step of 0 nor too many of them.
+fn with_few_rows(row: Row, said: Said) -> Result<Said, Refusal>
+    requires { said.times.to ≤ LAST_TIME }
+    ensures { result ≡ with_few_rows row said }
 {
-    let power = words.word()?;
-    let widening = words.word()?;
-    let repeat = words.word()?;
-    let scale = words.word()?;
-    let step = within_word(words)?;
-    let p = read_parameter(power)?;
-    let q = read_parameter(widening)?;
-    let r = read_parameter(repeat)?;
-    let s = read_parameter(scale)?;
-    let within = read_within(step)?;
-    let name = read_name(name)?;
-    let family = Family::Power { p, q, r, s };
-    let params = Params { family, within };
-    Ok(Command::Do(Event::Create { name, params }))
-}
-
-// Reads a `create`, from its name on.
-fn create(mut words: Words) -> Result<Command, Refusal>
-    ensures meaning { result ≡ create_of words.entry }
-    ensures time { IfOk result IsCommandInTime }
-{
-    let name = words.word()?;
-    let family = words.word()?;
-    if is_word(family, "exp") {
-        exp(name, words)
-    } else if is_word(family, "power") {
-        power(name, words)
+    if is_in_rows(row) && !has_rows(&said) {
+        Err(Refusal::Number)
     } else {
-        Err(Refusal::Syntax)
+        Ok(said)
     }
 }
 
-// Reads `append NAME T V`, from its name on.
-fn append(mut words: Words) -> Result<Command, Refusal>
-    ensures meaning { result ≡ append_of words.entry }
-    ensures time { IfOk result IsCommandInTime }
+// The target of an `exp`.
+fn exp(said: &Said, within: Option<u32>) -> Params
+    ensures { result ≡ exp_said said.now within }
 {
-    let name = words.word()?;
-    let time = words.word()?;
-    let value = words.word()?;
-    words.end()?;
-    let t = read_time(time)?;
-    let v = read_value(value)?;
-    let name = read_name(name)?;
-    Ok(Command::Do(Event::Value { name, t, v }))
+    let parameters = &said.parameters;
+    let family = Family::Exp {
+        b: parameters.b,
+        r: parameters.r,
+        s: parameters.s,
+    };
+    Params { family, within }
 }
 
-// Reads `landmark NAME open T`, of its name and its time.
-fn open(name: &[u8], time: &[u8]) -> Result<Command, Refusal>
-    ensures meaning { result ≡ open_of name.now time.now }
-    ensures time { IfOk result IsCommandInTime }
+// That of a `power`.
+fn power(said: &Said, within: Option<u32>) -> Params
+    ensures { result ≡ power_said said.now within }
 {
-    let t = read_time(time)?;
-    let name = read_name(name)?;
-    Ok(Command::Do(Event::Open { name, t }))
+    let parameters = &said.parameters;
+    let family = Family::Power {
+        p: parameters.p,
+        q: parameters.q,
+        r: parameters.r,
+        s: parameters.s,
+    };
+    Params { family, within }
 }
 
-// Reads `landmark NAME close T`, of its name and its time.
-fn close(name: &[u8], time: &[u8]) -> Result<Command, Refusal>
-    ensures meaning { result ≡ close_of name.now time.now }
-    ensures time { IfOk result IsCommandInTime }
+// A query of a range.
+fn query(name: Name, kind: Kind, said: &Said) -> Query
+    ensures { result ≡ query_said name kind said.now }
 {
-    let t = read_time(time)?;
-    let name = read_name(name)?;
-    Ok(Command::Do(Event::Close { name, t }))
-}
-
-// Reads a `landmark`, from its name on.
-fn landmark(mut words: Words) -> Result<Command, Refusal>
-    ensures meaning { result ≡ landmark_of words.entry }
-    ensures time { IfOk result IsCommandInTime }
-{
-    let name = words.word()?;
-    let change = words.word()?;
-    let time = words.word()?;
-    words.end()?;
-    if is_word(change, "open") {
-        open(name, time)
-    } else if is_word(change, "close") {
-        close(name, time)
-    } else {
-        Err(Refusal::Syntax)
-    }
-}
-
-// Reads `drop NAME`, from its name on.
-fn drop(mut words: Words) -> Result<Command, Refusal>
-    ensures meaning { result ≡ drop_of words.entry }
-    ensures time { IfOk result IsCommandInTime }
-{
-    let name = words.word()?;
-    words.end()?;
-    let name = read_name(name)?;
-    Ok(Command::Do(Event::Drop { name }))
-}
-
-// What is asked for of all values.
-fn kind(word: &[u8]) -> Result<Kind, Refusal>
-    ensures value { result ≡ asked_kind_of word.now }
-    ensures alone { IfOk result (λ kind. takes_value kind ≡ false) }
-{
-    if is_word(word, "count") {
-        Ok(Kind::Count)
-    } else if is_word(word, "sum") {
-        Ok(Kind::Sum)
-    } else if is_word(word, "min") {
-        Ok(Kind::Min)
-    } else if is_word(word, "max") {
-        Ok(Kind::Max)
-    } else {
-        Err(Refusal::Syntax)
-    }
-}
-
-// What the likeliest value is asked of.
-fn guessed(word: &[u8]) -> Result<Kind, Refusal>
-    ensures value { result ≡ guessed_of word.now }
-    ensures alone { IfOk result (λ kind. takes_value kind ≡ false) }
-{
-    if is_word(word, "count") {
-        Ok(Kind::CountGuess)
-    } else if is_word(word, "sum") {
-        Ok(Kind::SumGuess)
-    } else {
-        Err(Refusal::Syntax)
-    }
-}
-
-// Reads `query NAME has V T1 T2`, from V on.
-fn has(name: &[u8], mut words: Words) -> Result<Command, Refusal>
-    ensures meaning { result ≡ has_of name.now words.entry }
-    ensures time { IfOk result IsCommandInTime }
-{
-    let value = words.word()?;
-    let first = words.word()?;
-    let last = words.word()?;
-    words.end()?;
-    let value = read_value(value)?;
-    let from = read_time(first)?;
-    let to = read_time(last)?;
-    let name = read_name(name)?;
-    let kind = Kind::Has { value };
-    Ok(Command::Ask(Query {
+    Query {
         name,
         kind,
-        from,
-        to,
-    }))
-}
-
-// Reads `query NAME count T1 T2` and its like, from T1 on, by what is asked for.
-fn figure(name: &[u8], kind: Kind, mut words: Words) -> Result<Command, Refusal>
-    requires { takes_value kind ≡ false }
-    ensures meaning { result ≡ figure_of name.now kind words.entry }
-    ensures time { IfOk result IsCommandInTime }
-{
-    let first = words.word()?;
-    let last = words.word()?;
-    words.end()?;
-    let from = read_time(first)?;
-    let to = read_time(last)?;
-    let name = read_name(name)?;
-    Ok(Command::Ask(Query {
-        name,
-        kind,
-        from,
-        to,
-    }))
-}
-
-// Reads a `query`, from its name on.
-fn query(mut words: Words) -> Result<Command, Refusal>
-    ensures meaning { result ≡ query_of words.entry }
-    ensures time { IfOk result IsCommandInTime }
-{
-    let name = words.word()?;
-    let asked = words.word()?;
-    if is_word(asked, "has") {
-        has(name, words)
-    } else {
-        figure(name, kind(asked)?, words)
+        from: said.times.from,
+        to: said.times.to,
     }
 }
 
-// Reads `estimate NAME count T1 T2` and its like, from its name on.
-fn estimate(mut words: Words) -> Result<Command, Refusal>
-    ensures meaning { result ≡ estimate_of words.entry }
-    ensures time { IfOk result IsCommandInTime }
+// A series of one.
+fn series(name: Name, said: &Said) -> Series
+    ensures { result ≡ series_said name said.now }
 {
-    let name = words.word()?;
-    let asked = words.word()?;
-    figure(name, guessed(asked)?, words)
-}
-
-// Reads `series NAME count T1 T2 STEP` and its like, from T1 on, by what is asked for.
-fn steps(name: &[u8], kind: Kind, mut words: Words) -> Result<Command, Refusal>
-    requires { takes_value kind ≡ false }
-    ensures meaning { result ≡ steps_of name.now kind words.entry }
-    ensures time { IfOk result IsCommandInTime }
-{
-    let first = words.word()?;
-    let last = words.word()?;
-    let width = words.word()?;
-    words.end()?;
-    let from = read_time(first)?;
-    let to = read_time(last)?;
-    let step = read_step(width, from, to)?;
-    let name = read_name(name)?;
-    Ok(Command::Series(Series {
+    Series {
         name,
-        kind,
-        from,
-        to,
-        step,
-    }))
+        kind: said.kind,
+        from: said.times.from,
+        to: said.times.to,
+        step: said.times.step,
+    }
 }
 
-// Reads a `series`, from its name on.
-fn series(mut words: Words) -> Result<Command, Refusal>
-    ensures meaning { result ≡ series_of words.entry }
-    ensures time { IfOk result IsCommandInTime }
+// The command of a form, by the name and by what its words say.
+fn commanded(row: Row, name: Name, said: &Said) -> Command
+    ensures { result ≡ commanded row name said.now }
 {
-    let name = words.word()?;
-    let asked = words.word()?;
-    steps(name, kind(asked)?, words)
+    let t = said.times.from;
+    let step = Some(said.parameters.e);
+    match row {
+        Row::Exp => Command::Do(Event::Create {
+            name,
+            params: exp(said, None),
+        }),
+        Row::ExpWithin => Command::Do(Event::Create {
+            name,
+            params: exp(said, step),
+        }),
+        Row::Power => Command::Do(Event::Create {
+            name,
+            params: power(said, None),
+        }),
+        Row::PowerWithin => Command::Do(Event::Create {
+            name,
+            params: power(said, step),
+        }),
+        Row::Append => Command::Do(Event::Value {
+            name,
+            t,
+            v: said.value,
+        }),
+        Row::Open => Command::Do(Event::Open { name, t }),
+        Row::Close => Command::Do(Event::Close { name, t }),
+        Row::Drop => Command::Do(Event::Drop { name }),
+        Row::Query | Row::Estimate => Command::Ask(query(name, said.kind, said)),
+        Row::Has => Command::Ask(query(name, Kind::Has { value: said.value }, said)),
+        Row::Series | Row::Estimates => Command::Series(series(name, said)),
+        Row::Windows => Command::Windows(name),
+        Row::Certify => Command::Certify {
+            query: query(name, said.kind, said),
+            end: said.end,
+        },
+        Row::Last => Command::Last(name),
+        Row::Values => Command::Values {
+            name,
+            from: t,
+            to: said.times.to,
+        },
+    }
 }
 
-// Reads an `estimates`, from its name on.
-fn estimates(mut words: Words) -> Result<Command, Refusal>
-    ensures meaning { result ≡ estimates_of words.entry }
-    ensures time { IfOk result IsCommandInTime }
+// Reads a line that fits a form, from its name on: its numbers first, and then its name.
+fn row(row: Row, name: &[u8], rest: &[u8]) -> Result<Command, Refusal>
+    ensures { result ≡ row_means row name.now (words rest.now) }
 {
-    let name = words.word()?;
-    let asked = words.word()?;
-    steps(name, guessed(asked)?, words)
-}
-
-// Reads `windows NAME`, from its name on.
-fn windows(mut words: Words) -> Result<Command, Refusal>
-    ensures { result ≡ windows_of words.entry }
-{
-    let name = words.word()?;
-    words.end()?;
+    let said = read_fields(row.fields(), Words::of(rest), Said::nothing())?;
+    let said = with_few_rows(row, said)?;
     let name = read_name(name)?;
-    Ok(Command::Windows(name))
+    Ok(commanded(row, name, &said))
+}
+
+// Reads a command from its name on, by the forms of its verb.
+fn named(verb: Verb, line: &[u8]) -> Result<Command, Refusal>
+    ensures { result ≡ named_of verb (words line.now) }
+{
+    let (name, rest) = cut_first(line);
+    if name.is_empty() {
+        return Err(Refusal::Syntax);
+    }
+    match row_for(forms_of(verb), rest) {
+        Some(found) => row(found, name, rest),
+        None => Err(Refusal::Syntax),
+    }
 }
 
 // Reads `list`, with nothing after it.
-fn list(words: Words) -> Result<Command, Refusal>
-    ensures { result ≡ list_of words.entry }
+fn list(line: &[u8]) -> Result<Command, Refusal>
+    ensures { result ≡ list_of (words line.now) }
 {
-    words.end()?;
+    Words::of(line).end()?;
     Ok(Command::List)
 }
 
-// What is asked for, where that adds up.
-fn added(word: &[u8]) -> Result<Kind, Refusal>
-    ensures value { result ≡ added_of word.now }
-    ensures added { IfOk result (λ kind. adds_up kind ≡ true) }
-{
-    let kind = kind(word)?;
-    if kind.adds_up() {
-        Ok(kind)
-    } else {
-        Err(Refusal::Syntax)
-    }
-}
-
-// An end of an interval.
-fn end(word: &[u8]) -> Result<End, Refusal>
-    ensures { result ≡ end_of word.now }
-{
-    if is_word(word, "lo") {
-        Ok(End::Lo)
-    } else if is_word(word, "hi") {
-        Ok(End::Hi)
-    } else {
-        Err(Refusal::Syntax)
-    }
-}
-
-// Reads `certify NAME count lo T1 T2` and its like, from its name on.
-fn certify(mut words: Words) -> Result<Command, Refusal>
-    ensures meaning { result ≡ certify_of words.entry }
-    ensures time { IfOk result IsCommandInTime }
-{
-    let name = words.word()?;
-    let asked = words.word()?;
-    let side = words.word()?;
-    let first = words.word()?;
-    let last = words.word()?;
-    words.end()?;
-    let kind = added(asked)?;
-    let end = end(side)?;
-    let from = read_time(first)?;
-    let to = read_time(last)?;
-    let name = read_name(name)?;
-    let query = Query {
-        name,
-        kind,
-        from,
-        to,
-    };
-    Ok(Command::Certify { query, end })
-}
-
-// Reads `last NAME`, from its name on.
-fn last(mut words: Words) -> Result<Command, Refusal>
-    ensures { result ≡ last_of words.entry }
-{
-    let name = words.word()?;
-    words.end()?;
-    let name = read_name(name)?;
-    Ok(Command::Last(name))
-}
-
-// Reads `values NAME T1 T2`, from its name on.
-fn values(mut words: Words) -> Result<Command, Refusal>
-    ensures meaning { result ≡ values_form_of words.entry }
-    ensures time { IfOk result IsCommandInTime }
-{
-    let name = words.word()?;
-    let first = words.word()?;
-    let last = words.word()?;
-    words.end()?;
-    let from = read_time(first)?;
-    let to = read_time(last)?;
-    let name = read_name(name)?;
-    Ok(Command::Values { name, from, to })
-}
-
-// Reads a command from its first word and those after it.
-fn command(word: &[u8], words: Words) -> Result<Command, Refusal>
-    ensures meaning { result ≡ command_of word.now words.entry }
-    ensures time { IfOk result IsCommandInTime }
+// Reads a command from its first word and what stands after it.
+fn command(word: &[u8], rest: &[u8]) -> Result<Command, Refusal>
+    ensures { result ≡ command_of word.now (words rest.now) }
 {
     match verb_of(word) {
-        Some(Verb::Create) => create(words),
-        Some(Verb::Append) => append(words),
-        Some(Verb::Landmark) => landmark(words),
-        Some(Verb::Drop) => drop(words),
-        Some(Verb::Query) => query(words),
-        Some(Verb::Series) => series(words),
-        Some(Verb::Windows) => windows(words),
-        Some(Verb::List) => list(words),
-        Some(Verb::Certify) => certify(words),
-        Some(Verb::Last) => last(words),
-        Some(Verb::Values) => values(words),
-        Some(Verb::Estimate) => estimate(words),
-        Some(Verb::Estimates) => estimates(words),
+        Some(Verb::List) => list(rest),
+        Some(verb) => named(verb, rest),
         None => Err(Refusal::Syntax),
     }
 }
@@ -429,12 +205,12 @@ pub fn parse(line: &[u8]) -> Result<Option<Command>, Refusal>
     if is_comment(line) {
         return Ok(None);
     }
-    let mut words = Words::of(line);
-    match words.next() {
-        None => Ok(None),
-        Some(word) => match command(word, words) {
-            Ok(command) => Ok(Some(command)),
-            Err(refusal) => Err(refusal),
-        },
+    let (word, rest) = cut_first(line);
+    if word.is_empty() {
+        return Ok(None);
+    }
+    match command(word, rest) {
+        Ok(command) => Ok(Some(command)),
+        Err(refusal) => Err(refusal),
     }
 }

@@ -7,6 +7,8 @@ mod laws;
 mod line_reader;
 mod numbers;
 mod put;
+mod said;
+mod table;
 mod verb;
 mod words;
 
@@ -18,6 +20,7 @@ pub use laws::{
 };
 pub use line_reader::{Ended, LineReader};
 pub use put::{put_number, put_sum, put_target, put_value};
+pub use table::{Field, Fixed, Kinds, Letter, Row, forms_of};
 pub use verb::{Verb, verb_of};
 pub use words::{Words, cut_first, is_word};
 

@@ -1,11 +1,10 @@
 // Words that are to be numbers or names.
-ghost use Rattle.std.specs.Prelude.{◌≡◌, ◌<◌, ◌≤◌, ◌^◌, ◌-◌, None, Some, IfOk, MatchOption};
-ghost use Rattle.ss_catalog.specs.Series.{rows_in};
+ghost use Rattle.std.specs.Prelude.{◌≡◌, ◌≤◌, ◌^◌, ◌-◌, IfOk};
 ghost use Rattle.ss_fields.specs.Words.{number_up_to};
-ghost use Rattle.ss_command.specs.Grammar.{or_number, time_of, series_step_of, value_of, parameter_of, name_of, within_of};
+ghost use Rattle.ss_command.specs.Grammar.{or_number, time_of, value_of, parameter_of, name_of};
 
 use ss_base::LAST_TIME;
-use ss_catalog::{MOST_ROWS, Name, Refusal, rows_in};
+use ss_catalog::{Name, Refusal};
 use ss_fields::{read_i64, read_u64};
 
 // A number of digits up to `most`.
@@ -27,22 +26,6 @@ pub fn read_time(word: &[u8]) -> Result<u64, Refusal>
     read_number(word, LAST_TIME)
 }
 
-/// The step of a series over the range `from..=to`.
-pub fn read_step(word: &[u8], from: u64, to: u64) -> Result<u64, Refusal>
-    requires { to ≤ LAST_TIME }
-    ensures value { result ≡ series_step_of from to word.now }
-    ensures some { IfOk result (λ step. 0 < step) }
-    ensures bound { IfOk result (λ step. step ≤ LAST_TIME) }
-    ensures few { IfOk result (λ step. rows_in from to step ≤ MOST_ROWS) }
-{
-    let step = read_time(word)?;
-    if 0 < step && rows_in(from, to, step) <= u64::from(MOST_ROWS) {
-        Ok(step)
-    } else {
-        Err(Refusal::Number)
-    }
-}
-
 /// A value.
 pub fn read_value(word: &[u8]) -> Result<i64, Refusal>
     ensures { result ≡ value_of word.now }
@@ -60,16 +43,6 @@ pub fn read_parameter(word: &[u8]) -> Result<u32, Refusal>
     match read_number(word, u64::from(u32::MAX)) {
         Ok(number) => Ok(number as u32),
         Err(refusal) => Err(refusal),
-    }
-}
-
-/// The step of the clock, if there is a word of it.
-pub fn read_within(word: Option<&[u8]>) -> Result<Option<u32>, Refusal>
-    ensures { MatchOption word.entry (result ≡ within_of None) (λ found. result ≡ within_of (Some found.now)) }
-{
-    match word {
-        None => Ok(None),
-        Some(word) => Ok(Some(read_parameter(word)?)),
     }
 }
 

@@ -2,6 +2,7 @@
 #![tactic(auto)]
 
 mod explain;
+mod forms;
 mod frames;
 mod hints;
 mod last_times;

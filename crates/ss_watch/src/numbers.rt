@@ -1,9 +1,10 @@
 // Which word of a line isn't a number in its range.
+use crate::forms::form_of;
 use crate::hints::hint_on_number;
 use crate::words::{has_digits_alone, word_at};
 use ss_base::LAST_TIME;
 use ss_catalog::MOST_ROWS;
-use ss_command::{Verb, verb_of};
+use ss_command::{Field, verb_of};
 use ss_fields::{read_i64, read_u64};
 use std::alloc::{AllocError, Global};
 
@@ -20,34 +21,14 @@ enum Number {
 // A cursor gives at most so many rows at once.
 const MOST_AT_ONCE: u64 = 1000;
 
-// Where `within` stands behind a target of a family.
-fn place_of_within(family: &str) -> usize {
-    if family == "power" { 7 } else { 6 }
-}
-
-// A time stands at each place from this one on.
-fn time_from(first: usize, place: usize) -> Option<Number> {
-    if place >= first {
-        Some(Number::Time)
-    } else {
-        None
-    }
-}
-
-// What the number at a place of a command stands for, where one stands there: of a query also by what it asks for, and of a create by
-// its family. Places are counted from 0.
-fn number_at(verb: Verb, asked: &str, place: usize) -> Option<Number> {
-    match verb {
-        Verb::Create if place >= 3 && place != place_of_within(asked) => Some(Number::Parameter),
-        Verb::Append if place == 3 => Some(Number::Value),
-        Verb::Query if asked == "has" && place == 3 => Some(Number::Value),
-        Verb::Series | Verb::Estimates if place == 5 => Some(Number::Step),
-        Verb::Append | Verb::Values => time_from(2, place),
-        Verb::Landmark | Verb::Query | Verb::Series | Verb::Estimate | Verb::Estimates => {
-            time_from(3, place)
-        }
-        Verb::Certify => time_from(4, place),
-        Verb::Create | Verb::Drop | Verb::Windows | Verb::List | Verb::Last => None,
+// What the number in a place stands for, where one stands there.
+fn number_in(field: Field) -> Option<Number> {
+    match field {
+        Field::Time | Field::From | Field::To => Some(Number::Time),
+        Field::Step => Some(Number::Step),
+        Field::Value => Some(Number::Value),
+        Field::Parameter(_) => Some(Number::Parameter),
+        Field::Fixed(_) | Field::Kind(_) | Field::End => None,
     }
 }
 
@@ -73,9 +54,10 @@ fn is_number_in_range(word: &str, number: Number) -> bool {
 // The first word that isn't the number that it is to be.
 fn first_wrong<'a>(words: &[&'a str]) -> Option<(&'a str, Number)> {
     let verb = verb_of(word_at(words, 0).as_bytes())?;
-    let asked = word_at(words, 2);
-    for (place, word) in words.iter().enumerate() {
-        if let Some(number) = number_at(verb, asked, place) {
+    let row = form_of(verb, words)?;
+    let behind = words.get(2..).unwrap_or(&[]);
+    for (field, word) in row.fields().iter().zip(behind) {
+        if let Some(number) = number_in(*field) {
             if !is_number_in_range(word, number) {
                 return Some((*word, number));
             }

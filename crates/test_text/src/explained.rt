@@ -142,13 +142,11 @@ fn forms(rt: HostRuntime) -> Result<(), Fail> {
         append a 1/>refused SYNTAX/=1 SYNTAX: append NAME T V has 4 words, and this line has 3;\n\
         \t append\ta 1 2 3/>refused SYNTAX/=1 SYNTAX: append NAME T V has 4 words, and this line has 5;\n\
         list a/>refused SYNTAX/=1 SYNTAX: list has 1 word, and this line has 2;\n\
-        create a/>refused SYNTAX/=1 SYNTAX: a create is create NAME exp B R S, or create NAME power P Q R S;\n\
-        create a linear 1/>refused SYNTAX/=1 SYNTAX: \"linear\" is neither exp nor power: \
-        create NAME exp B R S, or create NAME power P Q R S;\n\
-        create a exp 2 1 1 withing 5/>refused SYNTAX/=1 SYNTAX: \"withing\" isn't within: create NAME exp B R S within E;\n\
-        create a power 1 0 1 1 5 within/>refused SYNTAX/=1 SYNTAX: \"5\" isn't within: create NAME power P Q R S within E;\n\
-        create a within 5 exp 2 1 1/>refused SYNTAX/=1 SYNTAX: \"within\" is neither exp nor power: \
-        create NAME exp B R S, or create NAME power P Q R S;\n\
+        create a/>refused SYNTAX/=1 SYNTAX: create NAME exp B R S has 6 words, or 8 with within E, and this line has 2;\n\
+        create a linear 1/>refused SYNTAX/=1 SYNTAX: \"linear\" is neither exp nor power;\n\
+        create a exp 2 1 1 withing 5/>refused SYNTAX/=1 SYNTAX: \"withing\" isn't within;\n\
+        create a power 1 0 1 1 5 within/>refused SYNTAX/=1 SYNTAX: \"5\" isn't within;\n\
+        create a within 5 exp 2 1 1/>refused SYNTAX/=1 SYNTAX: \"within\" is neither exp nor power;\n\
         landmark a shut 1/>refused SYNTAX/=1 SYNTAX: \"shut\" is neither open nor close;\n\
         Drop a/>refused SYNTAX/=1 SYNTAX: no command begins with \"Drop\": commands are in small letters;\n\
         query a mean 1 2/>refused SYNTAX/=1 SYNTAX: \"mean\" is none of count, sum, min, max and has: \
@@ -187,47 +185,47 @@ fn words_of_forms(rt: HostRuntime) -> Result<(), Fail> {
         2 SYNTAX: create NAME exp B R S has 6 words, or 8 with within E, and this line has 5;\
         3 SYNTAX: create NAME exp B R S has 6 words, or 8 with within E, and this line has 7;\n\
         create a exp 2 1 1 within 5/create a exp 2 1 1 within/create a exp 2 1 1 within 5 9/>=\
-        2 SYNTAX: create NAME exp B R S has 6 words, or 8 with within E, and this line has 7;\
-        3 SYNTAX: create NAME exp B R S has 6 words, or 8 with within E, and this line has 9;\n\
+        2 SYNTAX: create NAME exp B R S within E has 8 words, and this line has 7;\
+        3 SYNTAX: create NAME exp B R S within E has 8 words, and this line has 9;\n\
         create a power 1 0 1 1/create a power 1 0 1/create a power 1 0 1 1 9/>=\
         2 SYNTAX: create NAME power P Q R S has 7 words, or 9 with within E, and this line has 6;\
         3 SYNTAX: create NAME power P Q R S has 7 words, or 9 with within E, and this line has 8;\n\
         create a power 1 0 1 1 within 5/create a power 1 0 1 1 within/create a power 1 0 1 1 within 5 9/>=\
-        2 SYNTAX: create NAME power P Q R S has 7 words, or 9 with within E, and this line has 8;\
-        3 SYNTAX: create NAME power P Q R S has 7 words, or 9 with within E, and this line has 10;\n\
+        2 SYNTAX: create NAME power P Q R S within E has 9 words, and this line has 8;\
+        3 SYNTAX: create NAME power P Q R S within E has 9 words, and this line has 10;\n\
         append a 1 2/append a 1/append a 1 2 9/>=\
         2 SYNTAX: append NAME T V has 4 words, and this line has 3;\
         3 SYNTAX: append NAME T V has 4 words, and this line has 5;\n\
         landmark a open 1/landmark a open/landmark a open 1 9/>=\
-        2 SYNTAX: landmark NAME open T, or close T, has 4 words, and this line has 3;\
-        3 SYNTAX: landmark NAME open T, or close T, has 4 words, and this line has 5;\n\
+        2 SYNTAX: landmark NAME open T has 4 words, and this line has 3;\
+        3 SYNTAX: landmark NAME open T has 4 words, and this line has 5;\n\
         drop a/drop/drop a 9/>=2 SYNTAX: drop NAME has 2 words, and this line has 1;3 SYNTAX: drop NAME has 2 words, and this line has 3;\n\
         query a sum 1 2/query a sum 1/query a sum 1 2 9/>=\
-        2 SYNTAX: query NAME count T1 T2, or sum, min or max, has 5 words, and this line has 4;\
-        3 SYNTAX: query NAME count T1 T2, or sum, min or max, has 5 words, and this line has 6;\n\
+        2 SYNTAX: query NAME count|sum|min|max T1 T2 has 5 words, and this line has 4;\
+        3 SYNTAX: query NAME count|sum|min|max T1 T2 has 5 words, and this line has 6;\n\
         query a has 5 1 2/query a has 5 1/query a has 5 1 2 9/>=\
         2 SYNTAX: query NAME has V T1 T2 has 6 words, and this line has 5;\
         3 SYNTAX: query NAME has V T1 T2 has 6 words, and this line has 7;\n\
         series a sum 1 2 3/series a sum 1 2/series a sum 1 2 3 9/>=\
-        2 SYNTAX: series NAME count T1 T2 STEP, or sum, min or max, has 6 words, and this line has 5;\
-        3 SYNTAX: series NAME count T1 T2 STEP, or sum, min or max, has 6 words, and this line has 7;\n\
+        2 SYNTAX: series NAME count|sum|min|max T1 T2 STEP has 6 words, and this line has 5;\
+        3 SYNTAX: series NAME count|sum|min|max T1 T2 STEP has 6 words, and this line has 7;\n\
         windows a/windows/windows a 9/>=\
         2 SYNTAX: windows NAME has 2 words, and this line has 1;\
         3 SYNTAX: windows NAME has 2 words, and this line has 3;\n\
         list/list 9/>=2 SYNTAX: list has 1 word, and this line has 2;\n\
         certify a sum lo 1 2/certify a sum lo 1/certify a sum lo 1 2 9/>=\
-        2 SYNTAX: certify NAME count lo T1 T2, or sum, or hi, has 6 words, and this line has 5;\
-        3 SYNTAX: certify NAME count lo T1 T2, or sum, or hi, has 6 words, and this line has 7;\n\
+        2 SYNTAX: certify NAME count|sum lo|hi T1 T2 has 6 words, and this line has 5;\
+        3 SYNTAX: certify NAME count|sum lo|hi T1 T2 has 6 words, and this line has 7;\n\
         last a/last/last a 9/>=2 SYNTAX: last NAME has 2 words, and this line has 1;3 SYNTAX: last NAME has 2 words, and this line has 3;\n\
         values a 1 2/values a 1/values a 1 2 9/>=\
         2 SYNTAX: values NAME T1 T2 has 4 words, and this line has 3;\
         3 SYNTAX: values NAME T1 T2 has 4 words, and this line has 5;\n\
         estimate a sum 1 2/estimate a sum 1/estimate a sum 1 2 9/>=\
-        2 SYNTAX: estimate NAME count T1 T2, or sum, has 5 words, and this line has 4;\
-        3 SYNTAX: estimate NAME count T1 T2, or sum, has 5 words, and this line has 6;\n\
+        2 SYNTAX: estimate NAME count|sum T1 T2 has 5 words, and this line has 4;\
+        3 SYNTAX: estimate NAME count|sum T1 T2 has 5 words, and this line has 6;\n\
         estimates a sum 1 2 3/estimates a sum 1 2/estimates a sum 1 2 3 9/>=\
-        2 SYNTAX: estimates NAME count T1 T2 STEP, or sum, has 6 words, and this line has 5;\
-        3 SYNTAX: estimates NAME count T1 T2 STEP, or sum, has 6 words, and this line has 7;\n",
+        2 SYNTAX: estimates NAME count|sum T1 T2 STEP has 6 words, and this line has 5;\
+        3 SYNTAX: estimates NAME count|sum T1 T2 STEP has 6 words, and this line has 7;\n",
     ))
 }
 
