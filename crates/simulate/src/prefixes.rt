@@ -17,6 +17,11 @@ pub struct Shown {
 // Where the slots begin.
 const SLOTS: usize = 36864;
 
+/// Whether a store stands there: the file is long enough, and the gate of its birth is open.
+pub fn stands(content: &[u8]) -> bool {
+    content.len() >= SLOTS && content.starts_with(b"\xa5")
+}
+
 // The checksum of what lies in slots, without the zeros at the end.
 fn slots_of(content: &[u8]) -> u32 {
     let slots = part(content, SLOTS, content.len());

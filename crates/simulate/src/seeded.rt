@@ -1,7 +1,7 @@
 // Stories that look random, with faults and crashes.
 use crate::images::{Left, image_of};
 use crate::noted::Noted;
-use crate::prefixes::shown_on;
+use crate::prefixes::{shown_on, stands};
 use crate::random::Random;
 use crate::stories::story_by;
 use crate::story::Story;
@@ -9,7 +9,7 @@ use crate::trials::{
     Fault, Finding, NO_FAULT, Right, ends_rightly, right_of, run_story, wrong_of_image,
     wrong_of_opening,
 };
-use ss_outside::{Choice, MemDisk};
+use ss_outside::{Choice, Disk, MemDisk};
 use std::alloc::{AllocError, Global};
 
 // How many runs of a story have a fault, and how many crashes are looked at after each.
@@ -53,6 +53,12 @@ fn wrong_of_crash(
     wrong_of_opening(alloc, story, right, &image, call, left_by(random))
 }
 
+// Makes durable what an earlier run left, as a file is before it is read. Where a store stands already that is left to the journal,
+// whose settling has to see to it by itself. False says that it failed.
+fn is_ready(disk: &mut Noted<MemDisk>) -> bool {
+    stands(disk.device().content()) || disk.sync().is_ok()
+}
+
 // The program is started again over the same disk, without a crash, and stops at a call.
 fn start_again(
     alloc: Global,
@@ -62,7 +68,9 @@ fn start_again(
 ) -> Result<(), AllocError> {
     let call = disk.calls().saturating_add(random.below(60));
     disk.device_mut().stop_from(call);
-    let _ = shown_on(alloc, disk, &story.asks)?;
+    if is_ready(disk) {
+        let _ = shown_on(alloc, disk, &story.asks)?;
+    }
     Ok(())
 }
 
