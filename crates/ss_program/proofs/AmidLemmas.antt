@@ -3,20 +3,21 @@ use Rattle.ss_program.proofs.Common.{◌≡◌, ℕ, ◌≤◌, ◌++◌, List, 
 use Rattle.ss_program.proofs.Common.{append_assoc, arith, append-nil, length-append, at_start, joined, of_content, weaker, KnowsNow, LeavesOnly, DiskView}
 use Rattle.ss_program.proofs.Common.{NothingPending, Told, shown_by, Cursors, Amid, AreOwed, GoesAmid, IsAmid, IsAtRest, TakesFurther, TakesNone, one_line_more}
 use Rattle.ss_program.proofs.Common.{owed_by, IsOpen, NoneWait, SessionState, StandsBeyond, StandsWithin, StopsIn, sealing_by, HoldsTalk, appended, after_lines}
-use Rattle.ss_program.proofs.Common.{text_of, Talk, Sealing, Each, Shared, Status}
+use Rattle.ss_program.proofs.Common.{text_of, Talk, Sealing, Each, Shared, Seals, Status}
 use Rattle.ss_program.proofs.SessionLemmas.{after_lines-append, moments-more, text_of-append}
+use Rattle.ss_program.specs.declared.replies.Seals.TheVariants as seal
 
 -- where none wait, no line is owed anything; which tells how events come to the disk
-pub AreOwed-none : (sealing : Sealing) (waiting : Option (List ℕ)) → sealing_by waiting ≡ sealing → AreOwed sealing (owed_by waiting).lines []
+pub AreOwed-none : (sealing : Sealing) (waiting : Seals) → sealing_by waiting ≡ sealing → AreOwed sealing (owed_by waiting).lines []
 AreOwed-none sealing waiting is = grind (arith, common_steps)
 
-pub sealing-owed : (sealing : Sealing) (waiting : Option (List ℕ)) (ls : List (List ℕ)) → AreOwed sealing (owed_by waiting).lines ls →
+pub sealing-owed : (sealing : Sealing) (waiting : Seals) (ls : List (List ℕ)) → AreOwed sealing (owed_by waiting).lines ls →
     sealing_by waiting ≡ sealing
 sealing-owed sealing waiting ls few = grind (arith, common_steps)
 
-pub owed-nothing : (waiting : Option (List ℕ)) → NoneWait waiting → (owed_by waiting).text ≡ []
-owed-nothing None none = refl
-owed-nothing (Some replies) none = none
+pub owed-nothing : (waiting : Seals) → NoneWait waiting → (owed_by waiting).text ≡ []
+owed-nothing seal.Each none = refl
+owed-nothing (seal.Shared replies) none = none
 
 -- one line more is
 pub AreOwed-more : (sealing : Sealing) (lines : Option ℕ) (ls : List (List ℕ)) (line : List ℕ) → AreOwed sealing lines ls →
@@ -138,8 +139,8 @@ module _ {sealing : Sealing} {talk : Talk} {ls : List (List ℕ)} {before : Opti
       (rw append-nil second)
 
 -- none are taken
-pub TakesNone-still : (at : Cursors → Amid) (disk : Told) (u : Unit {0}) → KnowsNow disk → TakesNone at at (Ok u) disk disk
-TakesNone-still at disk u knows cursors sealing talk ls before = record {
-  goes = λ is. rw append-nil (GoesAmid-none sealing talk ls before (at cursors) disk knows is);
+pub TakesNone-still : (at : Amid) (disk : Told) (u : Unit {0}) → KnowsNow disk → TakesNone at at (Ok u) disk disk
+TakesNone-still at disk u knows sealing talk ls before = record {
+  goes = λ is. rw append-nil (GoesAmid-none sealing talk ls before at disk knows is);
   stops = tt;
 }

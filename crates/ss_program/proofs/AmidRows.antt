@@ -3,7 +3,8 @@ use Rattle.ss_program.proofs.Common.{◌≡◌, ℕ, ◌+◌, ◌<◌, ◌≤◌
 use Rattle.ss_program.proofs.Common.{DiskView, OfContent, Told, StoreIsKept, StoreState, AreOwed, IsReadyToServe, owed_by, with_text, IsOpen, IsServing}
 use Rattle.ss_program.proofs.Common.{HoldsAcked}
 use Rattle.ss_program.proofs.Common.{HoldsBy, steps_within, HoldsTalk, BeginsWithWant, HasTaken, NoneWait, SessionState, StandsBeyond, StopsAmong, sealing_by}
-use Rattle.ss_program.proofs.Common.{appended, after_lines, text_of, Talk, turn_of, Sealing, Each, Shared, Status, OutOfMemory, steps}
+use Rattle.ss_program.proofs.Common.{appended, after_lines, text_of, Talk, turn_of, Sealing, Each, Shared, Status, OutOfMemory, steps, Cursors, TalkState}
+use Rattle.ss_program.specs.declared.replies.Seals.TheVariants as seal
 
 -- the lines that were read are those of the bytes that were
 holds-read : (sealing : Sealing) (talk : Talk) (input bytes_read rest image : List ℕ) (bytes : ℕ) (status : Status) → bytes_read ++ rest ≡ input →
@@ -67,19 +68,19 @@ begins-line : (talk : Talk) (line : List ℕ) (ls : List (List ℕ)) → BeginsW
 begins-line talk line ls begins = begins
 
 -- what is owed: the replies that wait, or what is said to one line; none waits where each event is sealed by itself
-owed-each : AreOwed Each (owed_by None).lines []
+owed-each : AreOwed Each (owed_by seal.Each).lines []
 owed-each = refl
 
-owed-one : AreOwed Each (with_text (owed_by None) (65 ∷ [])).lines ([] ∷ [])
+owed-one : AreOwed Each (with_text (owed_by seal.Each) (65 ∷ [])).lines ([] ∷ [])
 owed-one = refl
 
-owed-two : AreOwed Each (with_text (owed_by None) (65 ∷ [])).lines ([] ∷ [] ∷ []) → ⊥
+owed-two : AreOwed Each (with_text (owed_by seal.Each) (65 ∷ [])).lines ([] ∷ [] ∷ []) → ⊥
 owed-two owed = cc
 
-owed-shared : AreOwed Shared (owed_by (Some (65 ∷ []))).lines ([] ∷ [] ∷ [])
+owed-shared : AreOwed Shared (owed_by (seal.Shared (65 ∷ []))).lines ([] ∷ [] ∷ [])
 owed-shared = tt
 
-owed-never : AreOwed Each (owed_by (Some [])).lines [] → ⊥
+owed-never : AreOwed Each (owed_by (seal.Shared [])).lines [] → ⊥
 owed-never owed = owed
 
 -- a session at the start of a call has no reply that waits
@@ -107,9 +108,11 @@ module _ (disk : DiskView) (store : StoreState) where
   open-sealed : IsOpen disk store → IsSealed store.records.journal
   open-sealed is = is.sealed
 
-  -- between two lines nothing is staged where each event is sealed by itself
-  ready-serves : (waiting : Option (List ℕ)) → IsReadyToServe disk store waiting → IsServing disk store
-  ready-serves waiting is = is.serves
+-- between two lines nothing is staged where each event is sealed by itself
+module _ (disk : DiskView) (talk : TalkState) where
+  ready-serves : IsReadyToServe disk talk → IsServing disk talk.store
+  ready-serves is = is.serves
 
-  ready-sealed : IsReadyToServe disk store None → IsSealed store.records.journal
-  ready-sealed is = is.staged
+  ready-sealed : (cursors : Cursors) (store : StoreState) →
+      IsReadyToServe disk (record { sessions = cursors; store = store; waiting = seal.Each }) → IsSealed store.records.journal
+  ready-sealed cursors store is = is.staged

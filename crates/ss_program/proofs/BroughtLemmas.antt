@@ -1,14 +1,15 @@
 -- A line of a session, by what it brings.
 use Rattle.ss_program.proofs.Common.{◌⊎◌, ◌≡◌, ℕ, ◌<◌, ◌++◌, List, [], ◌∷◌, length, Option, Some, None, Result, Ok, Err, refl, sym, ap, ◌∙◌, arith, append-nil}
 use Rattle.ss_program.proofs.Common.{flat_map, IsTrue, OnOk, of_content, reads-none, KnowsNow, LeavesOnly, shown-sealed, DiskView, Told, RecordsState, shown_by}
-use Rattle.ss_program.proofs.Common.{said_line, Reply, TurnsHistory, StoreState, Stands, Amid, GoesAmid, IsAmid, Owed, StagesBrought, TakesBrought, TakesNone}
+use Rattle.ss_program.proofs.Common.{said_line, Reply, TurnsHistory, StoreState, Stands, Amid, GoesAmid, IsAmid, Owed, StagesBrought, TakesNone}
 use Rattle.ss_program.proofs.Common.{TakesTurn, amid, owed_by, with_text, IsOpen, Brought, History, history_after, nothing, text_said, IsAlone, HoldsTalk}
 use Rattle.ss_program.proofs.Common.{StandsAround, StandsWithin, appended, after_line, after_lines, text_of, Talk, Turn, after_turn, silent, turn_brought}
-use Rattle.ss_program.proofs.Common.{turn_of, Cursors, Sealing, Each, Shared, Status, OutOfMemory, TakesStarved, Step, disk_verdict}
+use Rattle.ss_program.proofs.Common.{turn_of, Cursors, Sealing, Each, Shared, Seals, Status, OutOfMemory, TakesStarved, Step, disk_verdict}
 use Rattle.ss_program.proofs.AmidLemmas.{GoesAmid-none, Takes-next, Takes-then, said-all}
 use Rattle.ss_program.proofs.SealLemmas.{line-moments, line-owed, line-stopped}
 use Rattle.ss_program.proofs.SessionLemmas.{StopsIn-more, after_lines-push, moments-more, text_of-one, text_of-push}
 use Rattle.ss_program.proofs.StagingLemmas.{Turns-looked}
+use Rattle.ss_program.specs.declared.replies.Seals.TheVariants as seal
 
 -- what a call answers
 abbrev pub given : {T : Type 0} → T → Result T Status
@@ -32,7 +33,7 @@ Turning turn was is result old new = (here : Talk) →
     TurnsHistory was is here.history (λ image. Stands here.history image ⊎ Stands (after_turn here (turn here)).history image)
     (after_turn here (turn here)).history old new result
 
-module _ (turn : Talk → Turn) (was is : RecordsState) (waiting : Option (List ℕ)) (held : Option (List ℕ)) (cursors : Cursors) (old new : Told)
+module _ (turn : Talk → Turn) (was is : RecordsState) (waiting : Seals) (held : Option (List ℕ)) (cursors : Cursors) (old new : Told)
     (knows : KnowsNow new) where
   turns-after : {T : Type 0} (result : Result T Status) (here : Talk) (line : List ℕ) → turn_of here line ≡ turn here →
       TurnsHistory was is here.history (λ image. Stands here.history image ⊎ Stands (after_turn here (turn here)).history image)
@@ -83,19 +84,21 @@ abbrev pub Bringing : (History → Brought) → RecordsState → RecordsState �
 Bringing brought was is result old new = (history : History) →
     TurnsHistory was is history (StandsAround history (brought history)) (history_after history (brought history)) old new result
 
-module _ (speaker : Option ℕ) (brought : History → Brought) (was is : RecordsState) (waiting : Option (List ℕ)) (held : Option (List ℕ)) (old new : Told)
-    (knows : KnowsNow new) where
+module _ (speaker : Option ℕ) (brought : History → Brought) (was is : RecordsState) (waiting : Seals) (held : Option (List ℕ)) (cursors : Cursors)
+    (old new : Told) (knows : KnowsNow new) where
   -- what the line brings is staged, and what is said to it is owed
   pub TakesBrought-text : {T : Type 0} (value : T) (text : List ℕ) (u : Unit {0}) → Bringing brought was is (given value) old new →
       ((history : History) → Stands history (shown_by was old.content) → text_said speaker (brought history) ≡ text) →
-      TakesBrought speaker brought (amid was (owed_by waiting) held) (amid is (with_text (owed_by waiting) text) held) (Ok u) old new
-  TakesBrought-text value text u turns says cursors =
+      TakesTurn (λ talk. turn_brought speaker talk (brought talk.history)) (amid was (owed_by waiting) held cursors)
+      (amid is (with_text (owed_by waiting) text) held cursors) (Ok u) old new
+  TakesBrought-text value text u turns says =
       TakesTurn-owed (λ talk. turn_brought speaker talk (brought talk.history)) was is waiting held cursors old new knows value cursors text u
       (λ here. turns here.history) (λ here same stands. (says here.history stands, same))
 
   -- which is its one reply
   pub TakesBrought-owed : (reply : Reply) (u : Unit {0}) → StagesBrought brought was is (Ok reply) old new →
-      TakesBrought speaker brought (amid was (owed_by waiting) held) (amid is (with_text (owed_by waiting) (said_line speaker reply)) held) (Ok u) old new
+      TakesTurn (λ talk. turn_brought speaker talk (brought talk.history)) (amid was (owed_by waiting) held cursors)
+      (amid is (with_text (owed_by waiting) (said_line speaker reply)) held cursors) (Ok u) old new
   TakesBrought-owed reply u stages =
       TakesBrought-text reply (said_line speaker reply) u stages.turns (λ history stands.
       ap (λ rs. flat_map (said_line speaker) rs) (stages.reply history stands) ∙ append-nil (said_line speaker reply))
@@ -104,25 +107,26 @@ module _ (speaker : Option ℕ) (brought : History → Brought) (was is : Record
   pub TakesBrought-halted : {T : Type 0} (left : Owed) (status : Status) → (status ≡ OutOfMemory → ⊥) →
       ((history : History) → Stands history (shown_by was old.content) → 0 < length (text_said speaker (brought history))) →
       Bringing brought was is (halted {T = T} status) old new →
-      TakesBrought speaker brought (amid was (owed_by waiting) held) (amid is left held) (Err status) old new
-  TakesBrought-halted {T = T} left status other some turns cursors =
+      TakesTurn (λ talk. turn_brought speaker talk (brought talk.history)) (amid was (owed_by waiting) held cursors) (amid is left held cursors)
+      (Err status) old new
+  TakesBrought-halted {T = T} left status other some turns =
       TakesTurn-stopped (λ talk. turn_brought speaker talk (brought talk.history)) was is waiting held cursors old new knows {T = T}
       (amid is left held cursors) status refl other (λ here stands. some here.history stands) (λ here. turns here.history)
 
   pub TakesBrought-stopped : (left : Owed) (status : Status) → (status ≡ OutOfMemory → ⊥) →
       ((history : History) → Stands history (shown_by was old.content) → 0 < length (text_said speaker (brought history))) →
       StagesBrought brought was is (Err status) old new →
-      TakesBrought speaker brought (amid was (owed_by waiting) held) (amid is left held) (Err status) old new
+      TakesTurn (λ talk. turn_brought speaker talk (brought talk.history)) (amid was (owed_by waiting) held cursors) (amid is left held cursors)
+      (Err status) old new
   TakesBrought-stopped left status other some stages = TakesBrought-halted {T = Reply} left status other some stages.turns
 
 -- a line at which nothing is done: it is owed one reply
-pub TakesBrought-still : {was : RecordsState} (speaker : Option ℕ) (brought : Brought) (waiting : Option (List ℕ)) (held : Option (List ℕ)) (disk : Told)
-    (reply : Reply)
-    (u : Unit {0}) → KnowsNow disk → brought.event ≡ None → brought.replies ≡ reply ∷ [] →
-    TakesBrought speaker (λ history. brought) (amid was (owed_by waiting) held) (amid was (with_text (owed_by waiting) (said_line speaker reply)) held)
-    (Ok u) disk disk
-TakesBrought-still {was = was} speaker brought waiting held disk reply u knows none one =
-    TakesBrought-owed speaker (λ history. brought) was was waiting held disk disk knows reply u (record {
+pub TakesBrought-still : {was : RecordsState} (speaker : Option ℕ) (brought : Brought) (waiting : Seals) (held : Option (List ℕ)) (cursors : Cursors)
+    (disk : Told) (reply : Reply) (u : Unit {0}) → KnowsNow disk → brought.event ≡ None → brought.replies ≡ reply ∷ [] →
+    TakesTurn (λ talk. turn_brought speaker talk brought) (amid was (owed_by waiting) held cursors)
+    (amid was (with_text (owed_by waiting) (said_line speaker reply)) held cursors) (Ok u) disk disk
+TakesBrought-still {was = was} speaker brought waiting held cursors disk reply u knows none one =
+    TakesBrought-owed speaker (λ history. brought) was was waiting held cursors disk disk knows reply u (record {
       turns = λ history. Turns-looked was was history disk disk brought (Ok reply) knows (reads-none disk) refl (λ stands. none);
       reply = λ history stands. one;
     })
@@ -150,14 +154,14 @@ module _ (speaker : Option ℕ) (was : RecordsState) (held : Option (List ℕ)) 
   silent-text : text_of talk (ls ++ line ∷ []) ≡ text_of talk ls
   silent-text = text_of-push talk ls line ∙ ap (λ (t : Turn). text_of talk ls ++ t.says) turn ∙ append-nil (text_of talk ls)
 
-  silent-goes : (sealing : Sealing) (waiting : Option (List ℕ)) → IsAmid sealing talk ls before (amid was (owed_by waiting) held cursors) disk →
+  silent-goes : (sealing : Sealing) (waiting : Seals) → IsAmid sealing talk ls before (amid was (owed_by waiting) held cursors) disk →
       GoesAmid sealing talk (ls ++ line ∷ []) before (amid was (owed_by waiting) held cursors) disk disk
-  silent-goes Each None at =
+  silent-goes Each seal.Each at =
       let none = no-lines at.rest at.few in
       let out : ls ≡ at.out = at.are ∙ ap (λ l. at.out ++ l) none ∙ append-nil at.out in
       let stands = within-none (after_lines talk at.out) disk.content
       (rw none at at.within) in
-      GoesAmid-none Each talk (ls ++ line ∷ []) before (amid was (owed_by None) held cursors) disk knows (record {
+      GoesAmid-none Each talk (ls ++ line ∷ []) before (amid was (owed_by seal.Each) held cursors) disk knows (record {
         out = ls ++ line ∷ [];
         rest = [];
         are = sym (append-nil (ls ++ line ∷ []));
@@ -169,24 +173,25 @@ module _ (speaker : Option ℕ) (was : RecordsState) (held : Option (List ℕ)) 
         durable = at.durable;
         cursors = at.cursors ∙ ap (λ (t : Talk). t.cursors) (sym silent-talk);
       })
-  silent-goes Each (Some replies) at = absurd at.few
-  silent-goes Shared None at = absurd at.few
-  silent-goes Shared (Some replies) at =
+  silent-goes Each (seal.Shared replies) at = absurd at.few
+  silent-goes Shared seal.Each at = absurd at.few
+  silent-goes Shared (seal.Shared replies) at =
       let here = after_lines talk ls in
-      let from = amid was (owed_by (Some replies)) held cursors in
+      let from = amid was (owed_by (seal.Shared replies)) held cursors in
       line-owed Shared talk ls before from disk disk knows at line was (the_answer tt)
       (rw turn (Turns-looked was was here.history disk disk nothing (the_answer tt) knows (reads-none disk) refl (λ stands. refl)))
       from tt refl (ap (λ (t : Turn). t.cursors) turn ∙ sym at.cursors) refl
       (ap (λ (t : List ℕ). record { text = t; lines = None }) (sym (append-nil replies))
-      ∙ ap (λ (t : Turn). with_text (owed_by (Some replies)) t.says) (sym turn)) refl
+      ∙ ap (λ (t : Turn). with_text (owed_by (seal.Shared replies)) t.says) (sym turn)) refl
 
-pub TakesBrought-silent : (speaker : Option ℕ) (was : RecordsState) (waiting : Option (List ℕ)) (held : Option (List ℕ)) (disk : Told) (u : Unit {0}) →
-    KnowsNow disk → TakesBrought speaker (λ history. nothing) (amid was (owed_by waiting) held) (amid was (owed_by waiting) held) (Ok u) disk disk
-TakesBrought-silent speaker was waiting held disk u knows cursors sealing talk ls before line turn =
+pub TakesTurn-nothing : (speaker : Option ℕ) (was : RecordsState) (waiting : Seals) (held : Option (List ℕ)) (cursors : Cursors) (disk : Told)
+    (u : Unit {0}) → KnowsNow disk → TakesTurn (λ talk. turn_brought speaker talk nothing) (amid was (owed_by waiting) held cursors)
+    (amid was (owed_by waiting) held cursors) (Ok u) disk disk
+TakesTurn-nothing speaker was waiting held cursors disk u knows sealing talk ls before line turn =
     record { goes = λ at. silent-goes speaker was held cursors disk knows talk ls line before turn sealing waiting at; stops = tt }
 
 -- the same of a line whose turn is silent after the history that records show
-pub TakesTurn-silent : (turn : Talk → Turn) (was : RecordsState) (waiting : Option (List ℕ)) (held : Option (List ℕ)) (cursors : Cursors) (disk : Told)
+pub TakesTurn-silent : (turn : Talk → Turn) (was : RecordsState) (waiting : Seals) (held : Option (List ℕ)) (cursors : Cursors) (disk : Told)
     (u : Unit {0}) → KnowsNow disk → ((here : Talk) → Stands here.history (shown_by was disk.content) → turn here ≡ silent here) →
     TakesTurn turn (amid was (owed_by waiting) held cursors) (amid was (owed_by waiting) held cursors) (Ok u) disk disk
 TakesTurn-silent turn was waiting held cursors disk u knows none sealing talk ls before line is = record {
@@ -195,28 +200,25 @@ TakesTurn-silent turn was waiting held cursors disk u knows none sealing talk ls
   stops = tt;
 }
 
-module _ {was is : RecordsState} {owed left : Owed} {held after : Option (List ℕ)} {old new : Told} (cursors : Cursors) (turn : Talk → Turn) where
+module _ {from to : Amid} {old new : Told} (turn : Talk → Turn) where
   -- what was brought to the disk before a line failed, or was cut off
-  pub TakesTurn-unsealed : (status : Status) → TakesNone (amid was owed held) (amid is left after) (Err status) old new →
-      TakesTurn turn (amid was owed held cursors) (amid is left after cursors) (Err status) old new
+  pub TakesTurn-unsealed : (status : Status) → TakesNone from to (Err status) old new → TakesTurn turn from to (Err status) old new
   TakesTurn-unsealed status takes sealing talk ls before line known = record {
     goes = tt;
     stops = λ at.
-        StopsIn-more sealing talk ls (line ∷ []) old new before after status (rw append-nil at ((takes cursors sealing talk ls before).stops at));
+        StopsIn-more sealing talk ls (line ∷ []) old new before to.held status (rw append-nil at ((takes sealing talk ls before).stops at));
   }
 
   -- Memory ran out at a line that wants it, after which all that waited was brought to the disk and sent.
-  pub TakesTurn-starved : {u : Unit {0}} → KnowsNow new → left.text ≡ [] → shown_by is new.content ≡ new.content →
-      ((here : Talk) → here.cursors ≡ cursors → Stands here.history (shown_by was old.content) →
+  pub TakesTurn-starved : {u : Unit {0}} → KnowsNow new → to.owed.text ≡ [] → shown_by to.records new.content ≡ new.content →
+      ((here : Talk) → here.cursors ≡ from.cursors → Stands here.history (shown_by from.records old.content) →
       IsTrue (turn here).wants_memory × (0 < length (turn here).says)) →
-      TakesNone (amid was owed held) (amid is left after) (Ok u) old new →
-      TakesTurn turn (amid was owed held cursors) (amid is left after cursors) (Err OutOfMemory) old new
+      TakesNone from to (Ok u) old new → TakesTurn turn from to (Err OutOfMemory) old new
   TakesTurn-starved knows none sealed wants takes sealing talk ls before line known = record {
     goes = tt;
     stops = λ at.
         let here = after_lines talk ls in
-        let to = amid is left after cursors in
-        let goes = rw append-nil at ((takes cursors sealing talk ls before).goes at) in
+        let goes = rw append-nil at ((takes sealing talk ls before).goes at) in
         let rests = of_content new (HoldsTalk here) goes.amid.durable (rw sealed at goes.amid.shown) in
         let want = wants here (sym at.cursors) at.shown.0 in
         record {
@@ -237,45 +239,21 @@ module _ {was is : RecordsState} {owed left : Owed} {held after : Option (List �
         };
   }
 
-module _ {was is : RecordsState} {owed left : Owed} {held after : Option (List ℕ)} {old between new : Told} (cursors : Cursors) (turn : Talk → Turn)
-    (u : Unit {0}) (result : Result (Unit {0}) Status) where
+module _ {from mid to : Amid} {old then new : Told} (turn : Talk → Turn) (u : Unit {0}) (result : Result (Unit {0}) Status) where
   -- a line is done in memory, and then what is said to it
-  pub TakesTurn-said : {from : Amid} → TakesTurn turn from (amid was owed held cursors) (Ok u) old between →
-      TakesNone (amid was owed held) (amid is left after) result between new → TakesTurn turn from (amid is left after cursors) result old new
+  pub TakesTurn-said : TakesTurn turn from mid (Ok u) old then → TakesNone mid to result then new → TakesTurn turn from to result old new
   TakesTurn-said first second sealing talk ls before line known =
-      Takes-then result (first sealing talk ls before line known) (second cursors sealing talk (ls ++ line ∷ []) before)
+      Takes-then result (first sealing talk ls before line known) (second sealing talk (ls ++ line ∷ []) before)
 
   -- or after what was brought to the disk before it
-  pub TakesTurn-next : {to : Amid} → TakesNone (amid was owed held) (amid is left after) (Ok u) old between →
-      TakesTurn turn (amid is left after cursors) to result between new → TakesTurn turn (amid was owed held cursors) to result old new
+  pub TakesTurn-next : TakesNone from mid (Ok u) old then → TakesTurn turn mid to result then new → TakesTurn turn from to result old new
   TakesTurn-next first second sealing talk ls before line known =
-      Takes-next result (first cursors sealing talk ls before) (second sealing talk ls before line known)
-
--- the same of what a line brings, whatever cursors there are
-module _ {was is : RecordsState} {owed left : Owed} {held after : Option (List ℕ)} {old new : Told} (speaker : Option ℕ) (brought : History → Brought) where
-  pub TakesBrought-unsealed : (status : Status) → TakesNone (amid was owed held) (amid is left after) (Err status) old new →
-      TakesBrought speaker brought (amid was owed held) (amid is left after) (Err status) old new
-  TakesBrought-unsealed status takes cursors = TakesTurn-unsealed cursors (λ talk. turn_brought speaker talk (brought talk.history)) status takes
-
-module _ {was mid is : RecordsState} {owed between left : Owed} {held middle after : Option (List ℕ)} {old then new : Told} (speaker : Option ℕ)
-    (brought : History → Brought) (u : Unit {0}) (result : Result (Unit {0}) Status) where
-  pub TakesBrought-said : TakesBrought speaker brought (amid was owed held) (amid mid between middle) (Ok u) old then →
-      TakesNone (amid mid between middle) (amid is left after) result then new →
-      TakesBrought speaker brought (amid was owed held) (amid is left after) result old new
-  TakesBrought-said first second cursors =
-      TakesTurn-said cursors (λ talk. turn_brought speaker talk (brought talk.history)) u result (first cursors) second
-
-  pub TakesBrought-next : TakesNone (amid was owed held) (amid mid between middle) (Ok u) old then →
-      TakesBrought speaker brought (amid mid between middle) (amid is left after) result then new →
-      TakesBrought speaker brought (amid was owed held) (amid is left after) result old new
-  TakesBrought-next first second cursors =
-      TakesTurn-next cursors (λ talk. turn_brought speaker talk (brought talk.history)) u result first (second cursors)
+      Takes-next result (first sealing talk ls before) (second sealing talk ls before line known)
 
 -- memory ran out at a line, at which nothing was done
-pub step-starved : {was is : RecordsState} {owed : Owed} {held : Option (List ℕ)} {to : Cursors → Amid} {status : Status} {old mid new : DiskView} →
-    mid ≡ old → is ≡ was → Step (disk_verdict status) mid new (TakesStarved is (amid is owed held) to status) →
-    Step (disk_verdict status) old new (TakesStarved was (amid was owed held) to status)
-step-starved {was = was} {owed = owed} {held = held} {to = to} {status = status} {mid = mid} {new = new} still same starves = rw (same, still) at starves
+pub step-starved : {from mid to : Amid} {status : Status} {old then new : DiskView} → then ≡ old → mid ≡ from →
+    Step (disk_verdict status) then new (TakesStarved mid to status) → Step (disk_verdict status) old new (TakesStarved from to status)
+step-starved still same starves = rw (same, still) at starves
 
 -- where nothing is staged, what records show is the content
 pub shown-opened : (disk : DiskView) (store : StoreState) (result : Result (Unit {0}) Status) → OnOk result (IsOpen disk store) →

@@ -102,8 +102,8 @@ pub use Rattle.ss_outside.specs.declared.source.Failed.{Failed}
 pub use Rattle.ss_targets.specs.Power.{power_length}
 pub use Rattle.ss_program.specs.Amid.{Amid, AreOwed, GoesAmid, HasRoomForReply, IsAmid, IsAtRest, IsReadyToServe, TakesFurther, TakesNone, one_line_more}
 pub use Rattle.ss_program.specs.Amid.{owed_by, with_text, Owed}
-pub use Rattle.ss_program.specs.Amid.{StagesBrought, TakesBrought, TakesTurn, amid, OfAmid, TakesBytes, TakesLast, TakesOrdered, StagesFramed, staged_replies}
-pub use Rattle.ss_program.specs.Amid.{TakesStarved}
+pub use Rattle.ss_program.specs.Amid.{StagesBrought, TakesTurn, amid, between, owing, session_state, OfAmid, TakesBytes, TakesLast, StagesFramed}
+pub use Rattle.ss_program.specs.Amid.{TakesStarved, staged_replies}
 pub use Rattle.ss_program.specs.Answer.{IsOpen, IsServing, at_sink, SendsRows, IsOneReply, ReadsAnswer, Shows}
 pub use Rattle.ss_program.specs.Answer.{IsTextBrought, IsRowsText, HasRows, question_command}
 pub use Rattle.ss_program.specs.Certifying.{HasEvidence, IsSharp}
@@ -137,11 +137,13 @@ pub use Rattle.ss_program.specs.Talk.{turn_in, turn_spoken, writing, event_turn,
 pub use Rattle.ss_program.specs.Tally.{HasRun, IsSingle, Tallies, RunsAll}
 pub use Rattle.ss_program.specs.Words.{usage}
 pub use Rattle.ss_program.specs.declared.answer.Question.{Question}
+pub use Rattle.ss_program.specs.declared.replies.Seals.{Seals}
 pub use Rattle.ss_program.specs.declared.running.TheConstants.{LONGEST_INPUT}
 pub use Rattle.ss_program.specs.declared.staging.Staged.{Staged}
 pub use Rattle.ss_program.specs.declared.status.Status.{Status}
 pub use Rattle.ss_program.specs.declared.status.Status.TheVariants.{OutOfMemory, Done, Usage, RefusedStore, DiskFault, SourceFault, SinkFault, InputLimit}
 pub use Rattle.ss_program.specs.declared.status.Status.TheVariants.{RecordChanged}
+pub use Rattle.ss_program.specs.declared.talk.Talk.{Talk as TalkState}
 pub use Rattle.ss_query.specs.Asked.{joined_with, left_with, right_with, seen_after, seen_count, seen_of, seen_sum, seen_with, whole_with}
 pub use Rattle.ss_query.specs.declared.asking.Seen.{Seen}
 pub use Rattle.ss_query.specs.declared.cut.Cut.{Cut}

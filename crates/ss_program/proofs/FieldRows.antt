@@ -7,6 +7,7 @@ use Rattle.ss_program.proofs.Common.{History, NotBegun, Reads, Reports, Stopped,
 use Rattle.ss_program.proofs.Common.{appended, AppendsFront, SaysLine, accepted, report, report_so_far, Talk, LONGEST_INPUT, Form, Sealing, Each, Shared}
 use Rattle.ss_program.proofs.Common.{Status, Done, Usage, RefusedStore, DiskFault, SourceFault, SinkFault, OutOfMemory, InputLimit, RecordChanged}
 use Rattle.ss_program.specs.Promises.{BeginsOver}
+use Rattle.ss_program.specs.declared.replies.Seals.TheVariants as seal
 
 -- The acknowledged events are held, and no more than those of the lines that were read; at most one more where each event is sealed by
 -- itself. All are where the run is done, and no more where memory ran out.
@@ -252,20 +253,20 @@ served-none : served_by None ≡ None
 served-none = refl
 
 -- a session seals each event by itself where no reply can wait
-sealing_by-none : sealing_by None ≡ Each
-sealing_by-none = refl
+sealing_by-each : sealing_by seal.Each ≡ Each
+sealing_by-each = refl
 
-sealing_by-some : sealing_by (Some (65 ∷ [])) ≡ Shared
-sealing_by-some = refl
+sealing_by-shared : sealing_by (seal.Shared (65 ∷ [])) ≡ Shared
+sealing_by-shared = refl
 
 -- none waits there, nor in an empty text; and one does in any other
-none_wait-none : NoneWait None
-none_wait-none = tt
+none_wait-each : NoneWait seal.Each
+none_wait-each = tt
 
-none_wait-empty : NoneWait (Some [])
+none_wait-empty : NoneWait (seal.Shared [])
 none_wait-empty = refl
 
-none_wait-some : NoneWait (Some (65 ∷ [])) → ⊥
+none_wait-some : NoneWait (seal.Shared (65 ∷ [])) → ⊥
 none_wait-some waits = cc
 
 -- no more was read than there is

@@ -13,7 +13,7 @@ use Rattle.ss_generator.specs.Commands.{commands, of_round, of_rounds, opening, 
 use Rattle.ss_generator.specs.Numbers.{time, value}
 use Rattle.ss_program.specs.declared.generate.Tally.{Tally}
 use Rattle.ss_program.proofs.AmidLemmas.{GoesAmid-none, GoesAmid-then, IsAmid-begin}
-use Rattle.ss_program.proofs.BroughtLemmas.{TakesBrought-owed, TakesBrought-said, TakesTurn-moments}
+use Rattle.ss_program.proofs.BroughtLemmas.{TakesBrought-owed, TakesTurn-said, TakesTurn-moments}
 use Rattle.ss_program.proofs.OpeningLemmas.{unopened}
 use Rattle.ss_program.proofs.HeldLemmas.{StandsShortForFirst-within}
 use Rattle.ss_program.proofs.OverLemmas.{accepted-over}
@@ -21,6 +21,7 @@ use Rattle.ss_program.proofs.SealLemmas.{TakesNone-sent, TakesNone-unsealed, eac
 use Rattle.ss_program.proofs.SendLemmas.{AppendsFront-all, appended-appended, appended-nil}
 use Rattle.ss_program.proofs.SessionLemmas.{after_lines-accepted, moments-more, replies-append}
 use Rattle.ss_program.proofs.TextLemmas.{said_line-some}
+use Rattle.ss_program.specs.declared.replies.Seals.TheVariants as seal
 
 -- a printed command brings what the command does
 pub brings-printed : (history : History) (command : Command) → IsSayable command → brings history (printed command) ≡ command_brings history command
@@ -70,7 +71,7 @@ pub record IsAt (used : Option ℕ) (history : History) (seed count : ℕ) (left
     pub done : List Command
     pub all : commands seed count ≡ done ++ left
     pub tallied : Tallies (length (map printed done)) (replies history (map printed done)) tally
-    pub goes : GoesAmid Each (plain_over used history) (map printed done) None (amid records (owed_by None) None no_cursors) old new
+    pub goes : GoesAmid Each (plain_over used history) (map printed done) None (amid records (owed_by seal.Each) None no_cursors) old new
 
 pub IsAt-start : (used : Option ℕ) (history : History) (seed count : ℕ) (left : List Command) (records : RecordsState) (disk : Told) (tally : Tally) →
     left ≡ commands seed count → KnowsNow disk → NothingPending disk → IsSealed records.journal → StandsShort used history disk.content → Tallies 0 [] tally →
@@ -79,7 +80,7 @@ IsAt-start used history seed count left records disk tally all knows none sealed
   done = [];
   all = sym all;
   tallied = tallies;
-  goes = let at = amid records (owed_by None) None no_cursors in
+  goes = let at = amid records (owed_by seal.Each) None no_cursors in
       GoesAmid-none Each (plain_over used history) [] None at disk knows
       (IsAmid-begin Each (plain_over used history) [] None at disk refl refl (shown-sealed records.journal disk.content sealed) stands none refl refl);
 }
@@ -110,25 +111,28 @@ module _ {used : Option ℕ} {history : History} {seed count : ℕ} {left rest :
   pub IsAt-stop : {mid : RecordsState} {then : Told} (status : Status) → KnowsNow then → StagesBrought brought was mid (Err status) now then →
       LeavesOnly old then (StandsWithin talk (generated_lines seed count))
   IsAt-stop {mid = mid} {then = then} status knows stages =
-      moments-file (TakesTurn-moments (λ here. turn_brought None here (brought here.history)) was mid None None no_cursors now then knows (Err status)
+      moments-file (TakesTurn-moments (λ here. turn_brought None here (brought here.history)) was mid seal.Each None no_cursors now then knows (Err status)
       (λ here. stages.turns here.history) Each talk ls None (printed command) (turn-printed used history ls command sayable) at.goes.amid)
 
   module _ {mid is : RecordsState} {then new : Told} (reply : Reply) (knows : KnowsNow then) (stages : StagesBrought brought was mid (Ok reply) now then)
       (new_knows : KnowsNow new) where
     takes : (result : Result (Unit {0}) Status) →
-        TakesNone (amid mid (with_text (owed_by None) (said_line None reply)) None) (amid is (owed_by None) None) result then new →
-        TakesFurther Each talk ls (printed command ∷ []) None (amid was (owed_by None) None no_cursors) (amid is (owed_by None) None no_cursors) result now new
+        TakesNone (amid mid (with_text (owed_by seal.Each) (said_line None reply)) None no_cursors) (amid is (owed_by seal.Each) None no_cursors)
+        result then new →
+        TakesFurther Each talk ls (printed command ∷ []) None (amid was (owed_by seal.Each) None no_cursors)
+        (amid is (owed_by seal.Each) None no_cursors) result now new
     takes result seals =
-        TakesBrought-said None brought tt result (TakesBrought-owed None brought was mid None None now then knows reply tt stages) seals
-        no_cursors Each talk ls None (printed command) (turn-printed used history ls command sayable)
+        TakesTurn-said (λ here. turn_brought None here (brought here.history)) tt result
+        (TakesBrought-owed None brought was mid seal.Each None no_cursors now then knows reply tt stages) seals
+        Each talk ls None (printed command) (turn-printed used history ls command sayable)
 
     -- or where it was sealed
     pub IsAt-unsealed : (e : Failed) → SealsHistory {T = Unit {0}} mid is (Err e) then new →
         LeavesOnly old new (StandsWithin talk (generated_lines seed count))
     IsAt-unsealed e seals =
         moments-file ((takes (Err DiskFault)
-        (TakesNone-unsealed mid is (with_text (owed_by None) (said_line None reply)) (owed_by None) None then new e new_knows seals
-        (refl, said_line-some None reply))).stops at.goes.amid).any_moment
+        (TakesNone-unsealed mid is (with_text (owed_by seal.Each) (said_line None reply)) (owed_by seal.Each) None then new e new_knows seals
+        (refl, said_line-some None reply) no_cursors)).stops at.goes.amid).any_moment
 
     -- or it was done
     pub IsAt-more : (u : Unit {0}) (after : Tally) → SealsHistory {E = Failed} mid is (Ok u) then new → IsSealed is.journal →
@@ -146,10 +150,10 @@ module _ {used : Option ℕ} {history : History} {seed count : ℕ} {left rest :
           done = at.done ++ command ∷ [];
           all = at.all ∙ ap (λ cs. at.done ++ cs) next ∙ sym (append_assoc at.done (command ∷ []) rest);
           tallied = rw (lines, length-append, replied) (tallies (length ls) (replies history ls) at.tallied);
-          goes = rw lines (GoesAmid-then Each talk ls (printed command ∷ []) None (amid was (owed_by None) None no_cursors) old now new
-              (amid is (owed_by None) None no_cursors) at.goes ((takes (Ok tt)
-              (TakesNone-sent mid is (with_text (owed_by None) (said_line None reply)) (owed_by None) None None then new u (Ok tt) new_knows
-              (shown-sealed is.journal new.content sealed) seals refl (each-sent 1) (λ bytes less. (refl, less)) refl)).goes at.goes.amid));
+          goes = rw lines (GoesAmid-then Each talk ls (printed command ∷ []) None (amid was (owed_by seal.Each) None no_cursors) old now new
+              (amid is (owed_by seal.Each) None no_cursors) at.goes ((takes (Ok tt)
+              (TakesNone-sent mid is (with_text (owed_by seal.Each) (said_line None reply)) (owed_by seal.Each) None None then new u (Ok tt) new_knows
+              (shown-sealed is.journal new.content sealed) seals refl (each-sent 1) (λ bytes less. (refl, less)) refl no_cursors)).goes at.goes.amid));
         }
 
 -- all commands were done

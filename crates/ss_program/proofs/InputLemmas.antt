@@ -1,10 +1,10 @@
 -- Lines of a session and the bytes of its input.
 use Rattle.ss_program.proofs.Common.{◌≡◌, ℕ, ◌+◌, ◌-◌, ◌++◌, List, [], ◌∷◌, length, take, drop, Option, Some, None, Result, Ok, Err, refl, sym, ap, ◌∙◌}
 use Rattle.ss_program.proofs.Common.{append_assoc, take-add, append-nil, take-append-drop, OnOk, meaning, Ended, Kept, kept, unless_long, Told, RecordsState}
-use Rattle.ss_program.proofs.Common.{shown_by, StoreState, Amid, GoesAmid, IsAmid, OfAmid, Owed, TakesFurther, TakesBytes, TakesLast, TakesNone, TakesTurn}
+use Rattle.ss_program.proofs.Common.{shown_by, StoreState, Amid, GoesAmid, IsAmid, OfAmid, TakesFurther, TakesBytes, TakesLast, TakesNone, TakesTurn}
 use Rattle.ss_program.proofs.Common.{amid, owed_by, EndsSession, HasReplied, HasTaken, NoneWait, SessionState, StopsIn, TakesPiece, after_lines, Brought, Talk}
 use Rattle.ss_program.proofs.Common.{kept_framed, kept_offered, kept_spoken, kept_turn, meant_turn, turn_brought, turn_in, turn_of, Cursors, Form, Lines}
-use Rattle.ss_program.proofs.Common.{Sessions, Frames, Follow, Sealing, Status, Done, StepState, TellsStep, kept_so_far, kept_step, steps, steps_so_far}
+use Rattle.ss_program.proofs.Common.{Sessions, Frames, Follow, Sealing, Seals, Status, Done, StepState, TellsStep, kept_so_far, kept_step, steps, steps_so_far}
 use Rattle.ss_program.proofs.AmidLemmas.{AreOwed-none, GoesAmid-then, IsAmid-begin, StopsIn-after, owed-nothing, said-all, sealing-owed}
 use Rattle.ss_program.proofs.AnswerLemmas.{kept-brings, line-kept, meaning-long}
 use Rattle.ss_program.proofs.SendLemmas.{rest-slice}
@@ -124,10 +124,10 @@ OfAmid-stops form other alike line next from mid after status old between new pi
     (second sealing talk before (input ++ take done piece) (alike ∙ same) one.0 one.1.amid))
 
 -- the state of a session by its parts
-abbrev pub session_of : Form → Cursors → StoreState → Kept → Option (List ℕ) → SessionState
+abbrev pub session_of : Form → Cursors → StoreState → Kept → Seals → SessionState
 session_of form cursors store line waiting = record { form = form; store = store; line = line; cursors = cursors; waiting = waiting }
 
-module _ (form : Form) (cursors : Cursors) (store : StoreState) (line : Kept) (waiting : Option (List ℕ)) (held : Option (List ℕ)) (old : Told)
+module _ (form : Form) (cursors : Cursors) (store : StoreState) (line : Kept) (waiting : Seals) (held : Option (List ℕ)) (old : Told)
     (nothing_staged : shown_by store.records old.content ≡ old.content) where
   -- before a piece nothing waits, and nothing is staged
   begins : (sealing : Sealing) (talk : Talk) (before : Option (List ℕ)) (input : List ℕ) →
@@ -137,11 +137,11 @@ module _ (form : Form) (cursors : Cursors) (store : StoreState) (line : Kept) (w
       IsAmid-begin sealing talk (steps_so_far talk.form input) before (amid store.records (owed_by waiting) held cursors) old (owed-nothing waiting at.unsaid)
       (AreOwed-none sealing waiting at.seals) nothing_staged at.stands at.durable replied at.cursors
 
-  module _ (now : Cursors) (next : StoreState) (after_line : Kept) (left : Option (List ℕ)) (after : Option (List ℕ)) (piece : List ℕ) (new : Told) where
+  module _ (now : Cursors) (next : StoreState) (after_line : Kept) (left : Seals) (after : Option (List ℕ)) (piece : List ℕ) (new : Told) where
     -- a piece was taken, and then all was sealed and sent, if it was
-    pub TakesPiece-sealed : {u : Unit {0}} (mid : Cursors → Amid) (between : Told) (result : Result (Unit {0}) Status) →
-        TakesBytes (λ (w : Unit {0}). piece) piece form line after_line (amid store.records (owed_by waiting) held cursors) (mid now) (Ok u) old between →
-        TakesNone mid (amid next.records (owed_by left) after) result between new → OnOk result (shown_by next.records new.content ≡ new.content) →
+    pub TakesPiece-sealed : {u : Unit {0}} (mid : Amid) (between : Told) (result : Result (Unit {0}) Status) →
+        TakesBytes (λ (w : Unit {0}). piece) piece form line after_line (amid store.records (owed_by waiting) held cursors) mid (Ok u) old between →
+        TakesNone mid (amid next.records (owed_by left) after now) result between new → OnOk result (shown_by next.records new.content ≡ new.content) →
         OnOk result (NoneWait left) →
         TakesPiece (λ (w : Unit {0}). piece) piece (session_of form cursors store line waiting)
         (session_of form now next after_line left) held after result old new
@@ -151,7 +151,7 @@ module _ (form : Form) (cursors : Cursors) (store : StoreState) (line : Kept) (w
           let to = amid next.records (owed_by left) after now in
           let one = bytes.goes sealing talk before input at.form at.line (begins sealing talk before input at replied) in
           let has = rw append-nil at
-          (GoesAmid-then sealing talk taken [] before (mid now) old between new to one.1 ((none_more now sealing talk taken before).goes one.1.amid)) in
+          (GoesAmid-then sealing talk taken [] before mid old between new to one.1 ((none_more sealing talk taken before).goes one.1.amid)) in
           record {
             at = record {
               stands = rw sealed at has.amid.shown;
@@ -172,8 +172,8 @@ module _ (form : Form) (cursors : Cursors) (store : StoreState) (line : Kept) (w
       stops = λ sealing talk before input at replied.
           let taken = steps_so_far talk.form (input ++ piece) in
           let one = bytes.goes sealing talk before input at.form at.line (begins sealing talk before input at replied) in
-          rw append-nil at (StopsIn-after sealing talk taken [] before (mid now) old between new after status one.1
-          ((none_more now sealing talk taken before).stops one.1.amid));
+          rw append-nil at (StopsIn-after sealing talk taken [] before mid old between new after status one.1
+          ((none_more sealing talk taken before).stops one.1.amid));
     }
 
     -- or the run stopped in the piece
@@ -186,7 +186,7 @@ module _ (form : Form) (cursors : Cursors) (store : StoreState) (line : Kept) (w
       stops = λ sealing talk before input at replied. takes sealing talk before input at.form at.line (begins sealing talk before input at replied);
     }
 
-  module _ (now : Cursors) (records : RecordsState) (left : Option (List ℕ)) (after : Option (List ℕ)) (new : Told) where
+  module _ (now : Cursors) (records : RecordsState) (left : Seals) (after : Option (List ℕ)) (new : Told) where
     -- the input ended, and all was sealed and sent
     pub EndsSession-done : {u : Unit {0}} → shown_by records new.content ≡ new.content → NoneWait left →
         TakesLast form line (amid store.records (owed_by waiting) held cursors) (amid records (owed_by left) after now) (Ok u) old new →
@@ -232,23 +232,21 @@ module _ (form : Form) (line : Kept) {from to : Amid} {old new : Told} where
         rw last.1 (last.2.stops at);
   }
 
-module _ (form : Form) (line : Kept) {from : Amid} {was is : RecordsState} {owed left : Owed} {held after : Option (List ℕ)} {old between new : Told}
-    (cursors : Cursors) where
+module _ (form : Form) (line : Kept) {from mid to : Amid} {old between new : Told} where
   -- all is brought to the disk and sent after the last line
-  pub TakesLast-then : {u : Unit {0}} (result : Result (Unit {0}) Status) → TakesLast form line from (amid was owed held cursors) (Ok u) old between →
-      TakesNone (amid was owed held) (amid is left after) result between new → TakesLast form line from (amid is left after cursors) result old new
+  pub TakesLast-then : {u : Unit {0}} (result : Result (Unit {0}) Status) → TakesLast form line from mid (Ok u) old between →
+      TakesNone mid to result between new → TakesLast form line from to result old new
   TakesLast-then (Ok u) first second = record {
     goes = λ sealing talk before input same line at.
         let one = first.goes sealing talk before input same line at in
-        let to = amid is left after cursors in
-        rw append-nil at (GoesAmid-then sealing talk (steps talk.form input) [] before (amid was owed held cursors) old between new to one
-        ((second cursors sealing talk (steps talk.form input) before).goes one.amid));
+        rw append-nil at (GoesAmid-then sealing talk (steps talk.form input) [] before mid old between new to one
+        ((second sealing talk (steps talk.form input) before).goes one.amid));
     stops = tt;
   }
   TakesLast-then (Err status) first second = record {
     goes = tt;
     stops = λ sealing talk before input same line at.
         let one = first.goes sealing talk before input same line at in
-        rw append-nil at (StopsIn-after sealing talk (steps talk.form input) [] before (amid was owed held cursors) old between new after status one
-        ((second cursors sealing talk (steps talk.form input) before).stops one.amid));
+        rw append-nil at (StopsIn-after sealing talk (steps talk.form input) [] before mid old between new to.held status one
+        ((second sealing talk (steps talk.form input) before).stops one.amid));
   }

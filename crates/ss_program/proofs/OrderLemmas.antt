@@ -1,8 +1,8 @@
 -- What the cursor forms of a session do between two lines.
 use Rattle.ss_program.proofs.Common.{◌≡◌, ◌∙◌, ◌∷◌, [], List, ℕ, Option, Some, Result, Ok, Err, refl, sym, ap, append-nil, on_ok_weaker, flat_map, OnOk}
-use Rattle.ss_program.proofs.Common.{shown, reads-none, KnowsNow, Told, Failed, RecordsState, shown_by, Reply, Cursors, Owed, TakesOrdered, amid, owed_by}
+use Rattle.ss_program.proofs.Common.{shown, reads-none, KnowsNow, Told, Failed, RecordsState, shown_by, Reply, Cursors, Owed, TakesTurn, amid, owed_by}
 use Rattle.ss_program.proofs.Common.{with_text, at_sink, Ordered, close_brings, next_brings, open_brings, Brought, only_replies, text_said, NoneWait, said_line}
-use Rattle.ss_program.proofs.Common.{Sends, Talk, turn_said, Status, OutOfMemory}
+use Rattle.ss_program.proofs.Common.{Sends, Talk, turn_said, Seals, Status, OutOfMemory}
 use Rattle.ss_journal.proofs.TearLemmas.{on_ok}
 use Rattle.ss_program.specs.Opened.{OpensBrought}
 use Rattle.ss_program.proofs.BroughtLemmas.{TakesTurn-owed, TakesTurn-stopped, given, halted}
@@ -18,7 +18,7 @@ one-text : (session : ℕ) (brought : Brought) (reply : Reply) → brought.repli
 one-text session brought reply one =
     ap (λ rs. flat_map (said_line (Some session)) rs) one ∙ append-nil (said_line (Some session) reply)
 
-module _ (session : ℕ) (name : List ℕ) (was is : RecordsState) (waiting : Option (List ℕ)) (held : Option (List ℕ)) (before : Cursors) (old new : Told)
+module _ (session : ℕ) (name : List ℕ) (was is : RecordsState) (waiting : Seals) (held : Option (List ℕ)) (before : Cursors) (old new : Told)
     (knows : KnowsNow old) (knows_new : KnowsNow new) where
   abbrev opens : Talk → Ordered
   opens talk = open_brings talk.history talk.cursors session name
@@ -26,7 +26,7 @@ module _ (session : ℕ) (name : List ℕ) (was is : RecordsState) (waiting : Op
   -- a cursor is opened, and the reply to that is owed
   pub TakesOpened : (after : Cursors) (reply : Reply) (u : Unit {0}) → is.journal ≡ was.journal →
       OpensBrought was (λ history. open_brings history before session name) after (Ok reply) old new →
-      TakesOrdered session (λ history cursors. open_brings history cursors session name) (amid was (owed_by waiting) held before)
+      TakesTurn (λ talk. turn_said (Some session) (open_brings talk.history talk.cursors session name)) (amid was (owed_by waiting) held before)
       (amid is (with_text (owed_by waiting) (said_line (Some session) reply)) held after) (Ok u) old new
   TakesOpened after reply u same took =
       TakesTurn-owed (λ talk. turn_said (Some session) (opens talk)) was is waiting held before old new knows_new reply after
@@ -41,7 +41,7 @@ module _ (session : ℕ) (name : List ℕ) (was is : RecordsState) (waiting : Op
   -- the run stops at it
   pub TakesOpened-stopped : (left : Owed) (after : Cursors) (status : Status) → (status ≡ OutOfMemory → ⊥) →
       OpensBrought was (λ history. open_brings history before session name) after (Err status) old new →
-      TakesOrdered session (λ history cursors. open_brings history cursors session name) (amid was (owed_by waiting) held before)
+      TakesTurn (λ talk. turn_said (Some session) (open_brings talk.history talk.cursors session name)) (amid was (owed_by waiting) held before)
       (amid is left held after) (Err status) old new
   TakesOpened-stopped left after status other took =
       TakesTurn-stopped (λ talk. turn_said (Some session) (opens talk)) was is waiting held before old new knows_new {T = Reply}
@@ -50,11 +50,11 @@ module _ (session : ℕ) (name : List ℕ) (was is : RecordsState) (waiting : Op
       (λ stands. open-event here.history here.cursors session name))
 
 -- the next rows of a cursor are shown, where nothing waits
-pub TakesShown : {was : RecordsState} (session count : ℕ) (waiting : Option (List ℕ)) (held after : Option (List ℕ)) (before left : Cursors) (disk : Told)
+pub TakesShown : {was : RecordsState} (session count : ℕ) (waiting : Seals) (held after : Option (List ℕ)) (before left : Cursors) (disk : Told)
     (sent : Result (Unit {0}) Failed) → KnowsNow disk → NoneWait waiting → shown_by was disk.content ≡ disk.content →
     Sends held after (text_said (Some session) (next_brings before session count).brought) sent →
     OnOk sent (left ≡ (next_brings before session count).cursors) →
-    TakesOrdered session (λ history cursors. next_brings cursors session count) (amid was (owed_by waiting) held before)
+    TakesTurn (λ talk. turn_said (Some session) (next_brings talk.cursors session count)) (amid was (owed_by waiting) held before)
     (amid was (owed_by waiting) after left) (at_sink sent) disk disk
 TakesShown {was = was} session count waiting held after before left disk sent knows none sealed sends goes =
     TakesTurn-put (λ talk. turn_said (Some session) (next_brings talk.cursors session count)) waiting held after before left disk disk knows none sealed
@@ -64,10 +64,10 @@ TakesShown {was = was} session count waiting held after before left disk sent kn
     (λ is here there. is ∙ ap (λ (cs : Cursors). (next_brings cs session count).cursors) (sym there)) goes))
 
 -- a cursor is closed, and the reply to that is owed
-pub TakesClosed : (session : ℕ) (was : RecordsState) (waiting : Option (List ℕ)) (held : Option (List ℕ)) (before after : Cursors) (disk : Told)
+pub TakesClosed : (session : ℕ) (was : RecordsState) (waiting : Seals) (held : Option (List ℕ)) (before after : Cursors) (disk : Told)
     (reply : Reply) (u : Unit {0}) → KnowsNow disk → (close_brings before session).brought ≡ only_replies (reply ∷ []) →
     after ≡ (close_brings before session).cursors →
-    TakesOrdered session (λ history cursors. close_brings cursors session) (amid was (owed_by waiting) held before)
+    TakesTurn (λ talk. turn_said (Some session) (close_brings talk.cursors session)) (amid was (owed_by waiting) held before)
     (amid was (with_text (owed_by waiting) (said_line (Some session) reply)) held after) (Ok u) disk disk
 TakesClosed session was waiting held before after disk reply u knows brings goes =
     TakesTurn-owed (λ talk. turn_said (Some session) (close_brings talk.cursors session)) was was waiting held before disk disk knows reply after

@@ -2,7 +2,7 @@
 use Rattle.ss_program.proofs.Common.{◌≡◌, ℕ, ◌≤◌, ◌++◌, List, [], ◌∷◌, length, take, Option, Result, Ok, Err, refl, sym, ap, ◌∙◌, arith, append-nil, OnOk}
 use Rattle.ss_program.proofs.Common.{nothing_pending-same, of_content, read_leaves, weaker, KnowsNow, LeavesOnly, NothingPending, OnlyReads, Told, RecordsState}
 use Rattle.ss_program.proofs.Common.{shown_by, Stands, TakesTurn, amid, owed_by, the_event, HoldsTalk, NoneWait, StandsWithin, appended, Sends, after_lines}
-use Rattle.ss_program.proofs.Common.{text_of, Talk, Turn, after_turn, turn_of, Cursors, Status, OutOfMemory, ended, None}
+use Rattle.ss_program.proofs.Common.{text_of, Talk, Turn, after_turn, turn_of, Cursors, Seals, Status, OutOfMemory, ended, None}
 use Rattle.ss_program.proofs.AmidLemmas.{AreOwed-none, IsAmid-begin, StandsBeyond-all, owed-nothing, said-all, sealing-owed}
 use Rattle.ss_program.proofs.SendLemmas.{appended-appended}
 use Rattle.ss_program.proofs.SessionLemmas.{StandsWithin-before, after_lines-push, text_of-one, text_of-push}
@@ -17,7 +17,7 @@ read-moments talk ls line old new knows reads durable stands =
     (read_leaves old new knows reads)
 
 -- Nothing waits, nothing is staged then, and the disk is only read.
-module _ {was is : RecordsState} (turn : Talk → Turn) (waiting : Option (List ℕ)) (held after : Option (List ℕ)) (cursors left : Cursors) (old new : Told)
+module _ {was is : RecordsState} (turn : Talk → Turn) (waiting : Seals) (held after : Option (List ℕ)) (cursors left : Cursors) (old new : Told)
     (knows : KnowsNow old) (none : NoneWait waiting) (sealed : shown_by was old.content ≡ old.content) (reads : OnlyReads old new)
     (no_event : (here : Talk) → here.cursors ≡ cursors → (turn here).event ≡ None) where
   pub TakesTurn-put : (sent : Result (Unit {0}) Status) → (ended sent ≡ OutOfMemory → ⊥) → OnOk sent (shown_by is new.content ≡ new.content) →

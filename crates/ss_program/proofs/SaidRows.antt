@@ -9,6 +9,7 @@ use Rattle.ss_model.specs.Refusals.{refuses, refuses_reading}
 use Rattle.ss_model.specs.State.{state}
 use Rattle.ss_targets.specs.Windowing.{window_index}
 use Rattle.ss_program.specs.declared.replies.TheConstants.{LONGEST_REPLY, MOST_WAITING_BYTES}
+use Rattle.ss_program.specs.declared.replies.Seals.TheVariants as seal
 
 -- two lines of at most 256 bytes, each behind at most four that say to which session it is said
 longest_reply : LONGEST_REPLY ≡ 2 * (256 + 4)
@@ -17,15 +18,15 @@ longest_reply = refl
 most_waiting : MOST_WAITING_BYTES ≡ 2 ^ 16
 most_waiting = refl
 
--- one more can wait behind 65,016 bytes of replies, and not behind one byte more; and always where none waits
-room-last : (replies : List ℕ) → length replies ≡ 65016 → HasRoomForReply (Some replies)
+-- one more can wait behind 65,016 bytes of replies, and not behind one byte more; and always where each event is sealed by itself
+room-last : (replies : List ℕ) → length replies ≡ 65016 → HasRoomForReply (seal.Shared replies)
 room-last replies long = omega (arith, long)
 
-room-past : (replies : List ℕ) → length replies ≡ 65017 → HasRoomForReply (Some replies) → ⊥
+room-past : (replies : List ℕ) → length replies ≡ 65017 → HasRoomForReply (seal.Shared replies) → ⊥
 room-past replies long room = omega (arith, long, room)
 
-room-none : HasRoomForReply None
-room-none = tt
+room-each : HasRoomForReply seal.Each
+room-each = tt
 
 -- how much one read of the input takes at the most: in batches what may share a seal
 most_read-each : most_read Each ≡ 2 ^ 12

@@ -4,12 +4,13 @@ use Rattle.ss_program.proofs.Common.{ap, ◌∙◌, append_assoc, arith, append-
 use Rattle.ss_program.proofs.Common.{NothingPending, Told, Step, fine, Failed, RecordsState, shown_by, SealsHistory, TurnsHistory, Stands, IsShort, StandsShort}
 use Rattle.ss_program.proofs.Common.{IsShort-more, Amid, AreOwed, GoesAmid, IsAmid, Owed, TakesNone, amid, owed_by, with_text, at_sink, the_event, IsAlone}
 use Rattle.ss_program.proofs.Common.{HoldsTalk, StandsWithin, StopsIn, appended, AppendsLess, Sends, after_line, after_lines, text_of, disk_verdict, ended}
-use Rattle.ss_program.proofs.Common.{Talk, turn_of, Sealing, Each, Shared, Status, DiskFault, SinkFault, OutOfMemory}
+use Rattle.ss_program.proofs.Common.{Talk, turn_of, Sealing, Each, Shared, Seals, Cursors, Status, DiskFault, SinkFault, OutOfMemory}
 use Rattle.ss_program.proofs.AmidLemmas.{AreOwed-more, IsAmid-begin, StandsBeyond-all, StandsBeyond-none, moments-out}
 use Rattle.ss_program.proofs.LeftLemmas.{left_short, short_left}
 use Rattle.ss_program.proofs.SendLemmas.{appended-appended}
 use Rattle.ss_program.proofs.SessionLemmas.{StandsWithin-after, StandsWithin-all, StandsWithin-before, after_lines-append, after_lines-push, after_lines-used}
 use Rattle.ss_program.proofs.SessionLemmas.{text_of-append, text_of-push}
+use Rattle.ss_program.specs.declared.replies.Seals.TheVariants as seal
 
 -- the conversation after all of the lines, by those that are out and the rest
 after-rest : (talk : Talk) (ls out rest : List (List ℕ)) → ls ≡ out ++ rest → after_lines talk ls ≡ after_lines (after_lines talk out) rest
@@ -28,14 +29,14 @@ IsAlone-owed Each talk (Some n) text rest bytes few owes may = (few ∙ may.0, r
 IsAlone-owed Shared talk lines text rest bytes few owes may = tt
 
 -- at a line of which nothing is said yet, where nothing is owed before it
-IsAlone-line : (sealing : Sealing) (waiting : Option (List ℕ)) (talk : Talk) (rest : List (List ℕ)) (line : List ℕ) →
+IsAlone-line : (sealing : Sealing) (waiting : Seals) (talk : Talk) (rest : List (List ℕ)) (line : List ℕ) →
     AreOwed sealing (owed_by waiting).lines rest → 0 < length (turn_of (after_lines talk rest) line).says → IsAlone sealing talk (rest ++ line ∷ []) 0
-IsAlone-line Each None talk rest line few some =
+IsAlone-line Each seal.Each talk rest line few some =
     let says = (turn_of (after_lines talk rest) line).says in (
       omega (arith, few, length-append rest (line ∷ [])),
       omega (arith, some, ap (λ (t : List ℕ). length t) (text_of-push talk rest line), length-append (text_of talk rest) says),
     )
-IsAlone-line Each (Some replies) talk rest line few some = absurd few
+IsAlone-line Each (seal.Shared replies) talk rest line few some = absurd few
 IsAlone-line Shared waiting talk rest line few some = tt
 
 -- A run stops before a byte more is sent, at an error of the disk or of a record, with images of some first of the rest.
@@ -193,7 +194,7 @@ module _ (sealing : Sealing) (talk : Talk) (ls : List (List ℕ)) (before : Opti
       line-moments = moments-out talk old new (ls ++ line ∷ []) at.out (at.rest ++ line ∷ []) are-line moments-line
 
       -- the run stopped at the line
-      pub line-stopped : (waiting : Option (List ℕ)) (status : Status) → from.owed ≡ owed_by waiting → (status ≡ OutOfMemory → ⊥) →
+      pub line-stopped : (waiting : Seals) (status : Status) → from.owed ≡ owed_by waiting → (status ≡ OutOfMemory → ⊥) →
           0 < length (turn_of (after_lines talk ls) line).says → StopsIn sealing talk (ls ++ line ∷ []) old new before from.held status
       line-stopped waiting status owed other some =
           Stops-unsent sealing talk ls (line ∷ []) at.out (at.rest ++ line ∷ []) before from.held old new status are-line at.said knows other
@@ -231,7 +232,7 @@ pub TakesNone-sent : (was is : RecordsState) (owed owes : Owed) (held after : Op
     shown_by is new.content ≡ new.content → SealsHistory {E = Failed} was is (Ok u) old new → owes.text ≡ [] →
     ((sealing : Sealing) (ls : List (List ℕ)) → AreOwed sealing owed.lines ls → AreOwed sealing owes.lines []) →
     ((bytes : ℕ) → bytes < length owed.text → MayStop owed.lines owed.text bytes) →
-    Sends held after owed.text sent → TakesNone (amid was owed held) (amid is owes after) (at_sink sent) old new
+    Sends held after owed.text sent → (cursors : Cursors) → TakesNone (amid was owed held cursors) (amid is owes after cursors) (at_sink sent) old new
 TakesNone-sent was is owed owes held after old new u (Ok v) knows sealed seals empty few may sends cursors sealing talk ls before = record {
   goes = λ at. send-done sealing talk ls before (amid was owed held cursors) old new knows at (amid is owes after cursors) u sealed seals empty
       (few sealing at.rest at.few) refl sends;
@@ -246,7 +247,7 @@ TakesNone-sent was is owed owes held after old new u (Err e) knows sealed seals 
 -- or the disk failed
 pub TakesNone-unsealed : (was is : RecordsState) (owed owes : Owed) (held : Option (List ℕ)) (old new : Told) (e : Failed) → KnowsNow new →
     SealsHistory {T = Unit {0}} was is (Err e) old new → MayStop owed.lines owed.text 0 →
-    TakesNone (amid was owed held) (amid is owes held) (Err DiskFault) old new
+    (cursors : Cursors) → TakesNone (amid was owed held cursors) (amid is owes held cursors) (Err DiskFault) old new
 TakesNone-unsealed was is owed owes held old new e knows seals may cursors sealing talk ls before = record {
   goes = tt;
   stops = λ at. seal-failed sealing talk ls before (amid was owed held cursors) old new knows at e seals may;

@@ -1,7 +1,7 @@
 -- What frames bring that are written of lines, and what frames bring that are offered.
 use Rattle.ss_program.proofs.Common.{◌≡◌, ◌∙◌, List, ℕ, Option, Some, None, Result, Ok, Err, sym, ap, Event, Command, Do, Ask, Certify, Last, Values, arith}
-use Rattle.ss_program.proofs.Common.{common_steps, Windows, FrameState, IsHistory, state, Told, RecordsState, shown_by, due_in, Due, Cursors}
-use Rattle.ss_program.proofs.Common.{AllAgree-recovered, StoreIsIn, StoreState, Stands, Amid, Owed, TakesTurn, amid, History, due_brings, event_asked}
+use Rattle.ss_program.proofs.Common.{common_steps, Windows, FrameState, IsHistory, state, Told, shown_by, due_in, Due}
+use Rattle.ss_program.proofs.Common.{AllAgree-recovered, StoreIsIn, StoreState, Stands, Amid, TakesTurn, History, due_brings, event_asked}
 use Rattle.ss_program.proofs.Common.{frame_brings, after_lines, Talk, Turn, event_turn, meant_turn, silent, turn_brought, Status}
 use Rattle.ss_command.specs.declared.command.Command.TheVariants.{Series as AskRows, List as ListAll}
 use Rattle.ss_parts.specs.Held.{AllAgree}
@@ -29,15 +29,14 @@ TakesTurn-alike turn other alike takes sealing talk ls before line known =
     takes sealing talk ls before line (known ∙ alike (after_lines talk ls))
 
 -- or by one that it has after each history that is shown
-pub TakesTurn-where : {was : RecordsState} {owed : Owed} {held : Option (List ℕ)} {to : Amid} {old new : Told} (cursors : Cursors)
-    (result : Result (Unit {0}) Status) (turn other : Talk → Turn) →
-    ((talk : Talk) → Stands talk.history (shown_by was old.content) → other talk ≡ turn talk) →
-    TakesTurn turn (amid was owed held cursors) to result old new → TakesTurn other (amid was owed held cursors) to result old new
-TakesTurn-where cursors (Ok u) turn other alike takes sealing talk ls before line known = record {
+pub TakesTurn-where : {from to : Amid} {old new : Told} (result : Result (Unit {0}) Status) (turn other : Talk → Turn) →
+    ((talk : Talk) → Stands talk.history (shown_by from.records old.content) → other talk ≡ turn talk) →
+    TakesTurn turn from to result old new → TakesTurn other from to result old new
+TakesTurn-where (Ok u) turn other alike takes sealing talk ls before line known = record {
   goes = λ at. (takes sealing talk ls before line (known ∙ alike (after_lines talk ls) at.shown.0)).goes at;
   stops = tt;
 }
-TakesTurn-where cursors (Err status) turn other alike takes sealing talk ls before line known = record {
+TakesTurn-where (Err status) turn other alike takes sealing talk ls before line known = record {
   goes = tt;
   stops = λ at. (takes sealing talk ls before line (known ∙ alike (after_lines talk ls) at.shown.0)).stops at;
 }

@@ -18,18 +18,21 @@ use Rattle.ss_store.specs.Recover.{Stands}
 use Rattle.ss_program.specs.Answer.{IsOpen, IsServing}
 use Rattle.ss_program.specs.Line.{Brought, History, accepted_frame, command_in, frame_replies, history_after}
 use Rattle.ss_program.specs.Progress.{NoneWait, SessionState, StandsAround, StandsWithin, StopsIn, HoldsTalk}
+use Rattle.ss_program.specs.Reading.{StepState, step_under_way}
 use Rattle.ss_program.specs.Sent.{appended}
 use Rattle.ss_program.specs.Steps.{kept_so_far, steps, steps_so_far}
 use Rattle.ss_program.specs.Session.{after_lines, text_of}
-use Rattle.ss_program.specs.Cursor.{Ordered}
-use Rattle.ss_program.specs.Talk.{Talk, Turn, turn_brought, turn_of, turn_said}
+use Rattle.ss_program.specs.Talk.{Talk, Turn, turn_of}
 use Rattle.ss_sessions.specs.Cursors.{Cursors, no_cursors}
 use Rattle.ss_program.specs.declared.replies.TheConstants.{LONGEST_REPLY, MOST_WAITING_BYTES}
 use Rattle.ss_arguments.specs.declared.mode.Form.{Form}
 use Rattle.ss_arguments.specs.declared.mode.Sealing.{Sealing}
 use Rattle.ss_arguments.specs.declared.mode.Sealing.TheVariants.{Each, Shared}
+use Rattle.ss_program.specs.declared.replies.Seals.{Seals}
+use Rattle.ss_program.specs.declared.replies.Seals.TheVariants as seal
 use Rattle.ss_program.specs.declared.staging.Staged.{Staged}
 use Rattle.ss_program.specs.declared.status.Status.{Status}
+use Rattle.ss_program.specs.declared.talk.Talk.{Talk as TalkState}
 
 -- what is owed of the text that is said, and where each event is sealed by itself to how many lines: to none between two lines, and to
 -- one until its reply is sent
@@ -38,9 +41,9 @@ pub record Owed : Type 0 where
   pub lines : Option ℕ
 
 -- between two lines the replies that wait are owed, where some may wait
-abbrev pub owed_by : Option (List ℕ) → Owed
-owed_by None = record { text = []; lines = Some 0 }
-owed_by (Some replies) = record { text = replies; lines = None }
+abbrev pub owed_by : Seals → Owed
+owed_by seal.Each = record { text = []; lines = Some 0 }
+owed_by (seal.Shared replies) = record { text = replies; lines = None }
 
 abbrev pub one_line_more : Option ℕ → Option ℕ
 one_line_more None = None
@@ -64,9 +67,17 @@ pub record Amid : Type 0 where
   pub owed : Owed
   pub held : Option (List ℕ)
 
--- what most of them change, with the cursors
+-- the same by its parts
 abbrev pub amid : RecordsState → Owed → Option (List ℕ) → Cursors → Amid
 amid records owed held cursors = record { cursors = cursors; records = records; owed = owed; held = held }
+
+-- what lines change of a conversation that goes on, by what the sink holds
+abbrev pub between : TalkState → Option (List ℕ) → Amid
+between talk held = amid talk.store.records (owed_by talk.waiting) held talk.sessions
+
+-- and where this is still to be said to a line
+abbrev pub owing : TalkState → List ℕ → Option (List ℕ) → Amid
+owing talk text held = amid talk.store.records (with_text (owed_by talk.waiting) text) held talk.sessions
 
 -- Between two lines: what is said to some first of these lines is out, and what they did is on the disk. What is said to the rest is
 -- owed. The store shows what all of them did, and the disk has what some first of them did.
@@ -93,10 +104,10 @@ pub record TakesFurther (sealing : Sealing) (talk : Talk) (ls more : List (List 
   pub goes : OnOk result (IsAmid sealing talk ls before from old → GoesAmid sealing talk (ls ++ more) before to old new)
   pub stops : IfErr result (λ status. IsAmid sealing talk ls before from old → StopsIn sealing talk (ls ++ more) old new before to.held status)
 
--- no line more is taken, in any conversation, whatever cursors there are
-abbrev pub TakesNone : (Cursors → Amid) → (Cursors → Amid) → Result Unit Status → Told → Told → Type 0
-TakesNone from to result old new = (cursors : Cursors) (sealing : Sealing) (talk : Talk) (ls : List (List ℕ)) (before : Option (List ℕ)) →
-    TakesFurther sealing talk ls [] before (from cursors) (to cursors) result old new
+-- no line more is taken, in any conversation
+abbrev pub TakesNone : Amid → Amid → Result Unit Status → Told → Told → Type 0
+TakesNone from to result old new = (sealing : Sealing) (talk : Talk) (ls : List (List ℕ)) (before : Option (List ℕ)) →
+    TakesFurther sealing talk ls [] before from to result old new
 
 -- a line is taken that has this turn
 abbrev pub TakesTurn : (Talk → Turn) → Amid → Amid → Result Unit Status → Told → Told → Type 0
@@ -104,21 +115,11 @@ TakesTurn turn from to result old new =
     (sealing : Sealing) (talk : Talk) (ls : List (List ℕ)) (before : Option (List ℕ)) (line : List ℕ) →
     turn_of (after_lines talk ls) line ≡ turn (after_lines talk ls) → TakesFurther sealing talk ls (line ∷ []) before from to result old new
 
--- or one that brings this after the history, said to a session or to none, whatever cursors there are
-abbrev pub TakesBrought : Option ℕ → (History → Brought) → (Cursors → Amid) → (Cursors → Amid) → Result Unit Status → Told → Told → Type 0
-TakesBrought speaker brought from to result old new = (cursors : Cursors) →
-    TakesTurn (λ talk. turn_brought speaker talk (brought talk.history)) (from cursors) (to cursors) result old new
-
--- or one by which a session orders this, after the history and over the cursors
-abbrev pub TakesOrdered : ℕ → (History → Cursors → Ordered) → Amid → Amid → Result Unit Status → Told → Told → Type 0
-TakesOrdered session ordered from to result old new =
-    TakesTurn (λ talk. turn_said (Some session) (ordered talk.history talk.cursors)) from to result old new
-
 -- The run stops at a line, which may have any turn that wants memory after the histories that records show, and to which something is said.
-abbrev pub TakesStarved : RecordsState → (Cursors → Amid) → (Cursors → Amid) → Status → Told → Told → Type 0
-TakesStarved was from to status old new = (cursors : Cursors) (turn : Talk → Turn) →
-    ((here : Talk) → here.cursors ≡ cursors → Stands here.history (shown_by was old.content) →
-    IsTrue (turn here).wants_memory × (0 < length (turn here).says)) → TakesTurn turn (from cursors) (to cursors) (Err status) old new
+abbrev pub TakesStarved : Amid → Amid → Status → Told → Told → Type 0
+TakesStarved from to status old new = (turn : Talk → Turn) →
+    ((here : Talk) → here.cursors ≡ from.cursors → Stands here.history (shown_by from.records old.content) →
+    IsTrue (turn here).wants_memory × (0 < length (turn here).says)) → TakesTurn turn from to (Err status) old new
 
 -- A line is taken in memory: the event that it brings, if any, comes after the history that records show, wholly or not at all, and
 -- its one reply is answered.
@@ -152,18 +153,23 @@ BringsEvent brought was disk =
     OfContent disk (λ content. (history : History) → Stands history (shown_by was content) → IsSome (brought history).event)
 
 -- The store can be called between two lines, and nothing is staged where each event is sealed by itself.
-abbrev pub NoneStaged : Option (List ℕ) → StoreState → Type 0
-NoneStaged None store = IsSealed store.records.journal
-NoneStaged (Some replies) store = ⊤
+abbrev pub NoneStaged : Seals → StoreState → Type 0
+NoneStaged seal.Each store = IsSealed store.records.journal
+NoneStaged (seal.Shared replies) store = ⊤
 
-pub record IsReadyToServe (disk : DiskView) (store : StoreState) (waiting : Option (List ℕ)) : Type 0 where
-  pub serves : IsServing disk store
-  pub staged : NoneStaged waiting store
+pub record IsReadyToServe (disk : DiskView) (talk : TalkState) : Type 0 where
+  pub serves : IsServing disk talk.store
+  pub staged : NoneStaged talk.waiting talk.store
 
 -- Between two reads of the input: the store can be called, nothing of it is staged, and no reply waits.
 pub record IsAtRest (disk : DiskView) (session : SessionState) : Type 0 where
   pub is_open : IsOpen disk session.store
   pub unsaid : NoneWait session.waiting
+
+-- what is seen of a session, by its conversation and its reader
+abbrev pub session_state : TalkState → StepState → SessionState
+session_state talk reader =
+    record { form = reader.form; store = talk.store; line = step_under_way reader; cursors = talk.sessions; waiting = talk.waiting }
 
 -- and before the first one also no byte of it was taken, and no cursor is open
 pub record IsAtFront (disk : DiskView) (session : SessionState) : Type 0 where
@@ -172,9 +178,9 @@ pub record IsAtFront (disk : DiskView) (session : SessionState) : Type 0 where
   pub cursors : session.cursors ≡ no_cursors
 
 -- one reply more can wait
-abbrev pub HasRoomForReply : Option (List ℕ) → Type 0
-HasRoomForReply None = ⊤
-HasRoomForReply (Some replies) = length replies + LONGEST_REPLY ≤ MOST_WAITING_BYTES
+abbrev pub HasRoomForReply : Seals → Type 0
+HasRoomForReply seal.Each = ⊤
+HasRoomForReply (seal.Shared replies) = length replies + LONGEST_REPLY ≤ MOST_WAITING_BYTES
 
 -- what a call says between two lines of an input of this form, of which these bytes were taken
 abbrev pub OfAmid : Form → Kept → Amid → Told → (Sealing → Talk → Option (List ℕ) → List ℕ → Type 0) → Type 0

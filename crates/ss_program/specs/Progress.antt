@@ -14,31 +14,33 @@ use Rattle.ss_sessions.specs.Cursors.{Cursors}
 use Rattle.ss_arguments.specs.declared.mode.Form.{Form}
 use Rattle.ss_arguments.specs.declared.mode.Sealing.{Sealing}
 use Rattle.ss_arguments.specs.declared.mode.Sealing.TheVariants.{Each, Shared}
+use Rattle.ss_program.specs.declared.replies.Seals.{Seals}
+use Rattle.ss_program.specs.declared.replies.Seals.TheVariants as seal
 use Rattle.ss_program.specs.declared.status.Status.{Status}
 use Rattle.ss_program.specs.declared.status.Status.TheVariants.{Done, OutOfMemory}
 
--- what contracts see of a session: the form of its input, its store, what is kept of the line that is under way, the cursors, and where
--- events share seals the replies that wait for one
+-- what contracts see of a session: the form of its input, its store, what is kept of the line that is under way, the cursors, and how events
+-- are sealed, with the replies that wait for that
 pub record SessionState : Type 0 where
   pub form : Form
   pub store : StoreState
   pub line : Option (List ℕ)
   pub cursors : Cursors
-  pub waiting : Option (List ℕ)
+  pub waiting : Seals
 
--- which events come to the disk together, by whether replies may wait
-abbrev pub sealing_by : Option (List ℕ) → Sealing
-sealing_by None = Each
-sealing_by (Some replies) = Shared
+-- which events come to the disk together
+abbrev pub sealing_by : Seals → Sealing
+sealing_by seal.Each = Each
+sealing_by (seal.Shared replies) = Shared
 
 -- the image stands for the history of a conversation, and is no longer than that allows
 abbrev pub HoldsTalk : Talk → List ℕ → Type 0
 HoldsTalk talk image = StandsShort talk.used talk.history image
 
 -- no reply waits
-abbrev pub NoneWait : Option (List ℕ) → Type 0
-NoneWait None = ⊤
-NoneWait (Some replies) = replies ≡ []
+abbrev pub NoneWait : Seals → Type 0
+NoneWait seal.Each = ⊤
+NoneWait (seal.Shared replies) = replies ≡ []
 
 -- After a conversation began the session has taken these bytes: the disk stands for the history before with the events accepted since,
 -- with nothing pending, and the line under way is what no line end has ended.

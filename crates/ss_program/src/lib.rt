@@ -12,6 +12,7 @@ mod generate;
 mod refuse;
 mod replies;
 mod running;
+mod saying;
 mod sending;
 mod series;
 mod session;
@@ -20,6 +21,7 @@ mod staging;
 mod status;
 mod step_reader;
 mod taking;
+mod talk;
 
 pub use running::{LONGEST_INPUT, run};
 pub use sending::send;

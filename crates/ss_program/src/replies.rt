@@ -67,3 +67,10 @@ impl Replies {
         self.bytes.clear();
     }
 }
+
+/// How events come to the disk: each by itself, or some together, whose replies wait for that.
+#[derive(Drop)]
+pub enum Seals {
+    Each,
+    Shared(Replies),
+}

@@ -9,10 +9,11 @@ ghost use Rattle.ss_program.specs.Steps.{kept_so_far};
 ghost use Rattle.ss_program.specs.Status.{disk_verdict, ended, sink_verdict, IsStop};
 ghost use Rattle.ss_sessions.specs.Cursors.{no_cursors};
 
-use crate::replies::Replies;
+use crate::replies::{Replies, Seals};
 use crate::status::Status;
 use crate::step_reader::StepReader;
 use crate::taking::{finish_lines, take_piece};
+use crate::talk::Talk;
 use ss_arguments::{Form, Sealing};
 use ss_outside::{Disk, Sink};
 use ss_sessions::Sessions;
@@ -20,23 +21,20 @@ use ss_store::Store;
 use std::alloc::{AllocError, Global};
 use std::marker::Model;
 
-/// The form of the input, the cursors of its sessions, the store, and the line that is under way.
+/// A conversation that goes on, and the reader that cuts the input into its lines.
 #[derive(Drop)]
 pub struct Session {
-    sessions: Sessions,
-    store: Store,
+    talk: Talk,
     reader: StepReader,
-    // Where events share seals, the replies that wait for one.
-    waiting: Option<Replies>,
 }
 
 impl Model for Session {
+    ghost use Rattle.ss_program.specs.Amid.{session_state};
     ghost use Rattle.ss_program.specs.Progress.{SessionState};
-    ghost use Rattle.ss_program.specs.Reading.{step_under_way};
 
     ghost Value = { SessionState };
 
-    ghost view = { λ s. record { form = s.reader.form; store = s.store; line = step_under_way s.reader; cursors = s.sessions; waiting = s.waiting } };
+    ghost view = { λ s. session_state s.talk s.reader };
 }
 
 impl Session {
@@ -54,14 +52,17 @@ impl Session {
         ensures each { sealing ≡ Sealing.Each → OnErr result ⊥ }
     {
         let waiting = match sealing {
-            Sealing::Each => None,
-            Sealing::Shared => Some(Replies::new(alloc)?),
+            Sealing::Each => Seals::Each,
+            Sealing::Shared => Seals::Shared(Replies::new(alloc)?),
         };
-        Ok(Session {
+        let talk = Talk {
             sessions: Sessions::new(alloc),
             store,
-            reader: StepReader::new(form),
             waiting,
+        };
+        Ok(Session {
+            talk,
+            reader: StepReader::new(form),
         })
     }
 
@@ -81,15 +82,7 @@ impl Session {
         ensures status { IfErr result (IsStop (D.seen disk.old).tells) }
         ensures counted { Counted (sink_verdict (ended result)) (K.faults sink.old) (K.faults sink.new) }
     {
-        take_piece(
-            &mut self.sessions,
-            &mut self.store,
-            &mut self.reader,
-            &mut self.waiting,
-            piece,
-            disk,
-            sink,
-        )
+        take_piece(&mut self.talk, &mut self.reader, piece, disk, sink)
     }
 
     /// Ends the input, and answers a last line that no line end ended.
@@ -100,13 +93,6 @@ impl Session {
         ensures status { (result ≡ Status.Done) ⊎ IsStop (D.seen disk.old).tells result }
         ensures counted { Counted (sink_verdict result) (K.faults sink.old) (K.faults sink.new) }
     {
-        finish_lines(
-            &mut self.sessions,
-            &mut self.store,
-            &mut self.reader,
-            &mut self.waiting,
-            disk,
-            sink,
-        )
+        finish_lines(&mut self.talk, &mut self.reader, disk, sink)
     }
 }

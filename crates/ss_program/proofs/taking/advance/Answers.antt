@@ -1,5 +1,5 @@
 use Rattle.ss_program.proofs.Common.{◌≡◌, ◌++◌, Ok, Err, take, ap, sym, ◌∙◌, rules, option_copied, step_under_way, step-as, step-none}
-use Rattle.ss_program.proofs.Common.{TakesBytes, amid, owed_by, kept_step, steps_so_far}
+use Rattle.ss_program.proofs.Common.{TakesBytes, between, kept_step, steps_so_far}
 use Rattle.ss_program.proofs.AmidLemmas.{GoesAmid-none}
 use Rattle.ss_program.proofs.InputLemmas.{Stops-piece, Takes-kept, advance-told}
 use Rattle.ss_program.proofs.taking.advance.Goals as goal
@@ -8,7 +8,7 @@ pub returns-in-None-clause-takes : goal.returns-in-None-clause-takes
 returns-in-None-clause-takes g c =
     let view = g.D.Disk.seen c.args.disk.now in
     let piece = c.args.piece.now in
-    let at = amid c.args.store.now.records (owed_by c.args.waiting.now) (g.K.Sink.held c.args.sink.now) c.args.sessions.now in
+    let at = between c.args.talk.now (g.K.Sink.held c.args.sink.now) in
     step-none view (TakesBytes (λ count. take count piece) piece c.args.reader.now.form (step_under_way c.args.reader.now)
     (step_under_way c.feed-count.new.self) at at
     (Ok c.feed-count.result.0)) (λ told. record {
@@ -54,7 +54,6 @@ returns-in_ok-stage_line-in-Some-clause-takes g c =
     let piece = c.args.piece.now in
     let count = c.feed-count.result.0 in
     let o = option_copied c.line_of.result in
-    let to = amid c.stage_line.new.store.records (owed_by c.stage_line.new.waiting) (g.K.Sink.held c.stage_line.new.sink) c.stage_line.new.sessions in
     step-as c.in_ok-stage_line-in-Some.ensures.takes (λ takes. record {
       goes = λ sealing talk before input form line is.
           let more = input ++ take count piece in

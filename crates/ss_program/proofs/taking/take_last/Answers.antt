@@ -1,4 +1,4 @@
-use Rattle.ss_program.proofs.Common.{Ok, ap, sym, ◌∙◌, option_copied, step_under_way, step-as, step-none, TakesLast, amid, owed_by, kept_step, steps_so_far}
+use Rattle.ss_program.proofs.Common.{Ok, ap, sym, ◌∙◌, option_copied, step_under_way, step-as, step-none, TakesLast, between, kept_step, steps_so_far}
 use Rattle.ss_program.proofs.AmidLemmas.{GoesAmid-none}
 use Rattle.ss_program.proofs.InputLemmas.{Takes-kept, TakesLast-line, last-told}
 use Rattle.ss_program.proofs.taking.take_last.Goals as goal
@@ -6,7 +6,7 @@ use Rattle.ss_program.proofs.taking.take_last.Goals as goal
 pub returns-in-None-clause-takes : goal.returns-in-None-clause-takes
 returns-in-None-clause-takes g c =
     let view = g.D.Disk.seen c.args.disk.now in
-    let at = amid c.args.store.now.records (owed_by c.args.waiting.now) (g.K.Sink.held c.args.sink.now) c.args.sessions.now in
+    let at = between c.args.talk.now (g.K.Sink.held c.args.sink.now) in
     step-none view (TakesLast c.args.reader.now.form (step_under_way c.args.reader.now) at at (Ok tt)) (λ told. record {
       goes = λ sealing talk before input form line is.
           let read = rw (← form) at line in

@@ -1,5 +1,5 @@
 use Rattle.ss_program.proofs.Common.{◌≡◌, ◌++◌, Err, take, take_all, refl, ◌∙◌, arith, rules, append-nil, step_under_way, step-as, step-none, step-then}
-use Rattle.ss_program.proofs.Common.{GoesAmid, OfAmid, amid, owed_by, kept_so_far, steps_so_far}
+use Rattle.ss_program.proofs.Common.{GoesAmid, OfAmid, between, kept_so_far, steps_so_far}
 use Rattle.ss_program.proofs.SendLemmas.{fits_more}
 use Rattle.ss_program.proofs.InputLemmas.{OfAmid-more, OfAmid-stops}
 use Rattle.ss_program.proofs.AmidLemmas.{GoesAmid-none}
@@ -9,7 +9,7 @@ pub loop-done-init : goal.loop-done-init
 loop-done-init g c =
     let disk = g.D.Disk.seen c.args.disk.now in
     let line = step_under_way c.args.reader.now in
-    let at = amid c.args.store.now.records (owed_by c.args.waiting.now) (g.K.Sink.held c.args.sink.now) c.args.sessions.now in
+    let at = between c.args.talk.now (g.K.Sink.held c.args.sink.now) in
     record {
       fits = omega arith;
       ready = c.requires;
@@ -35,9 +35,9 @@ loop-done-preserved g c =
       on = step-then inv.on c.in_ok-done.ensures.takes (λ first second.
           OfAmid-more c.args.reader.now.form c.loop-done.reader.form inv.form (step_under_way c.args.reader.now) (step_under_way c.loop-done.reader)
           (step_under_way c.advance.new.reader)
-          (amid c.args.store.now.records (owed_by c.args.waiting.now) (g.K.Sink.held c.args.sink.now) c.args.sessions.now)
-          (amid c.loop-done.store.records (owed_by c.loop-done.waiting) (g.K.Sink.held c.loop-done.sink) c.loop-done.sessions)
-          (amid c.advance.new.store.records (owed_by c.advance.new.waiting) (g.K.Sink.held c.advance.new.sink) c.advance.new.sessions)
+          (between c.args.talk.now (g.K.Sink.held c.args.sink.now))
+          (between c.loop-done.talk (g.K.Sink.held c.loop-done.sink))
+          (between c.advance.new.talk (g.K.Sink.held c.advance.new.sink))
           (g.D.Disk.seen c.args.disk.now).told (g.D.Disk.seen c.loop-done.disk).told (g.D.Disk.seen c.advance.new.disk).told piece done count first
           second.goes);
       form = c.in_ok-done.ensures.form ∙ inv.form;
@@ -53,7 +53,7 @@ returns-in_err-done-clause-takes g c =
     let mid = g.D.Disk.seen c.loop-done.disk in
     let new = g.D.Disk.seen c.advance.new.disk in
     let line = step_under_way c.args.reader.now in
-    let from = amid c.args.store.now.records (owed_by c.args.waiting.now) (g.K.Sink.held c.args.sink.now) c.args.sessions.now in
+    let from = between c.args.talk.now (g.K.Sink.held c.args.sink.now) in
     let after = g.K.Sink.held c.advance.new.sink in
     let status = c.in_err-done.field-0.0 in
     let same : c.from_residual.result ≡ Err status = search rules in
@@ -61,7 +61,7 @@ returns-in_err-done-clause-takes g c =
     (step-then inv.on c.in_err-done.ensures.takes (λ first second. record {
       goes = tt;
       stops = OfAmid-stops c.args.reader.now.form c.loop-done.reader.form inv.form line (step_under_way c.loop-done.reader) from
-          (amid c.loop-done.store.records (owed_by c.loop-done.waiting) (g.K.Sink.held c.loop-done.sink) c.loop-done.sessions)
+          (between c.loop-done.talk (g.K.Sink.held c.loop-done.sink))
           after status old.told mid.told new.told piece done first second.stops;
     }))
 
@@ -71,7 +71,7 @@ returns-clause-takes g c =
     let done = c.loop-done.done in
     let old = (g.D.Disk.seen c.args.disk.now).told in
     let mid = (g.D.Disk.seen c.loop-done.disk).told in
-    let at = amid c.loop-done.store.records (owed_by c.loop-done.waiting) (g.K.Sink.held c.loop-done.sink) c.loop-done.sessions in
+    let at = between c.loop-done.talk (g.K.Sink.held c.loop-done.sink) in
     step-as c.loop-done.invariant.on (λ on. record {
       goes = λ sealing talk before input form line is.
           rw (take_all done piece (omega (arith, c.loop-done-test.false))) at (on sealing talk before input form line is);

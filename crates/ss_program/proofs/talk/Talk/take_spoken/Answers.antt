@@ -1,0 +1,12 @@
+use Rattle.ss_program.proofs.Common.{None, Ok, step-none, TakesTurn, between, nothing, turn_brought}
+use Rattle.ss_program.proofs.BroughtLemmas.{TakesTurn-nothing}
+use Rattle.ss_program.proofs.talk.Talk.take_spoken.Goals as goal
+
+pub returns-in-Nothing-clause-takes : goal.returns-in-Nothing-clause-takes
+returns-in-Nothing-clause-takes g c =
+    let disk = g.D.Disk.seen c.args.disk.now in
+    let self = c.args.self.now in
+    let held = g.K.Sink.held c.args.sink.now in
+    let at = between self held in
+    rw (← c.in-Nothing.ensures.meaning) (step-none disk (TakesTurn (λ talk. turn_brought None talk nothing) at at (Ok tt)) (λ told.
+    TakesTurn-nothing None self.store.records self.waiting held self.sessions disk.told tt (g.met.D.Disk.knows_now c.args.disk.now told)))
