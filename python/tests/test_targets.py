@@ -86,10 +86,10 @@ def test_what_stands_within_steps(target: Target, gaps: Sequence[int], start: in
 
 
 def test_rows_of_steps() -> None:
-    """Two windows more for each further step, and no more steps than values."""
+    """One window more for each further step, and no more steps than values."""
     target = Target.of("exp 2 1 1")
-    assert [target.most_windows(7, steps) for steps in (1, 2, 7, 8)] == [5, 7, 17, 17]
-    assert [target.most_windows(values, 3) for values in (0, 1, 2)] == [0, 1, 5]
+    assert [target.most_windows(7, steps) for steps in (1, 2, 7, 8)] == [5, 6, 11, 11]
+    assert [target.most_windows(values, 3) for values in (0, 1, 2)] == [0, 1, 4]
     day = Readings(Fraction(60), Fraction(86400))
     assert [day.steps(Fraction(step)) for step in (86400, 86399, 43200, 3600)] == [2, 3, 3, 25]
 

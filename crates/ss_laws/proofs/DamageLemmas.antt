@@ -12,6 +12,7 @@ use Rattle.ss_checksum.proofs.ParityLemmas.{odd}
 use Rattle.ss_checksum.proofs.ReturnLemmas.{two}
 use Rattle.ss_codec.specs.declared.record.Record.{Record}
 use Rattle.ss_codec.specs.declared.record.Record.TheVariants.{Free, Stream, Window, Landmark, Value}
+use Rattle.ss_codec.specs.Decoded.{decoded, record_in}
 use Rattle.ss_codec.specs.Record.{is_valid, spelling}
 use Rattle.ss_codec.proofs.RecordLemmas.{Spells-decoded, spelling-free}
 use Rattle.ss_fields.specs.Fields.{number_bytes}
@@ -115,14 +116,22 @@ record_two slot r bytes valid live bits =
       | inr zeros ↦ absurd (zeros-two xs bytes (IsSpread-in_slot slot r valid live) bits zeros)
     ]
 
+-- zeros are a free slot, whichever its number
+decoded-zeros : decoded (replicate 128 0) ≡ Some Free
+unfolding decoded record_in is_valid spelling
+decoded-zeros = refl
+
+read_from-zeros : (slot : ℕ) → read_from slot (replicate 128 0) ≡ Some Free
+read_from-zeros slot = ap decoded (slot_form-zeros Checked slot) ∙ decoded-zeros
+
 pub record_odd : (slot : ℕ) (r : Record) (bytes : List ℕ) → IsTrue (is_valid r) → r ≢ Free → AreOddBits (in_slot slot r) bytes
-    → (read_from slot bytes ≡ None) ⊎ (bytes ≡ replicate 128 0)
+    → (read_from slot bytes ≡ None) ⊎ ((bytes ≡ replicate 128 0) × (read_from slot bytes ≡ Some Free))
 record_odd slot r bytes valid live bits =
     let bad = odd (number_bytes 4 slot) (in_slot slot r) bytes bits.first bits.second bits.third (AreBytes-number_bytes 4 slot) bits.long
     (IsChecked-in_slot slot r valid live) bits.is in
     elim (read_from-unchecked slot bytes bad (read_from slot bytes) refl) [
       | inl none ↦ inl none
-      | inr zeros ↦ inr zeros
+      | inr zeros ↦ inr (zeros, ap (read_from slot) zeros ∙ read_from-zeros slot)
     ]
 
 -- numbers of 32 bits with the same bytes are one

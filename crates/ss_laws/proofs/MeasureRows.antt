@@ -1,7 +1,6 @@
 -- The definitions of ages, of parts of a range and of sizes at some rows, and where the laws leave no room.
 use Rattle.std.proofs.Common.{◌≡◌, ◌+◌, ◌-◌, ◌*◌, ◌^◌, ◌≤◌, ◌++◌, ℤ, [], ◌∷◌, Some, ap, arith, true, false, negsuc, refl, suc}
-use Rattle.std.specs.Int.{int_max, int_min}
-use Rattle.std.specs.Prelude.{◌*ℤ◌, ◌-ℤ◌, List, length, max, min, pos}
+use Rattle.std.specs.Prelude.{◌-ℤ◌, List, length, map, max, min, pos, take}
 use Rattle.std.proofs.lemmas.Int.{ints}
 use Rattle.ss_bounds.specs.Several.{greatest_of_all, least_of_all, sum_of_counts, sum_of_sums}
 use Rattle.ss_bounds.specs.Split.{SplitFigures, sum_interval}
@@ -9,11 +8,12 @@ use Rattle.ss_bounds.specs.declared.extreme.Extreme.TheVariants.{Nothing, Sure, 
 use Rattle.ss_catalog.specs.Series.{numbers_from}
 use Rattle.ss_catalog.specs.Params.{exp, power}
 use Rattle.ss_catalog.specs.declared.event.Event.TheVariants as events
+use Rattle.ss_catalog.specs.declared.params.Family.TheVariants as families
 use Rattle.ss_catalog.specs.declared.query.Kind.TheVariants as kinds
 use Rattle.ss_catalog.specs.declared.series.Series.{Series}
-use Rattle.ss_laws.specs.Ages.{cuts, length_at, open_at, values_since}
+use Rattle.ss_laws.specs.Ages.{cuts, length_at, open_at, open_sum, open_sums, values_since}
 use Rattle.ss_laws.specs.Parts.{IsCountWithin, IsExtremeWithin, IsSumWithin, answered_count, answered_greatest, answered_least, of_rows, answered_sum}
-use Rattle.ss_laws.specs.Sizes.{HoldsAtMost, NeedsAtMost, TakesAtMost, UsesFewSlots}
+use Rattle.ss_laws.specs.Sizes.{HoldsAtMost, NeedsAtMost, TakesAtMost, UsesFewSlots, steps_of}
 use Rattle.ss_model.specs.History.{Happened, added}
 use Rattle.ss_model.specs.State.{Stream, live, records_of, state}
 use Rattle.ss_model.specs.declared.types.TheConstants.{MOST_RECORDS}
@@ -110,7 +110,7 @@ sum-widest : sum_interval widest ≡ (negsuc 4, pos 7)
 unfolding sum_interval
 sum-widest = refl
 
-width-widest : (pos 7 -ℤ negsuc 4) ≡ (pos (2 - 1) *ℤ (int_max (pos 0) (pos 7) -ℤ int_min (pos 0) (negsuc 4)))
+width-widest : (pos 7 -ℤ negsuc 4) ≡ open_sum widest
 width-widest = refl
 
 -- of three values that are all 5, or all -5, at most one lies in the range: it is 0 that they are far from, and not one another
@@ -124,6 +124,13 @@ sum-fives = refl
 sum-minus_fives : sum_interval (alike (negsuc 4) (negsuc 14)) ≡ (negsuc 4, pos 0)
 unfolding sum_interval
 sum-minus_fives = refl
+
+-- two windows leave open what each does, and none leaves nothing
+open_sums-two : map open_sums ([] ∷ (widest ∷ []) ∷ (widest ∷ alike (pos 5) (pos 15) ∷ []) ∷ []) ≡ pos 0 ∷ pos 12 ∷ pos 22 ∷ []
+open_sums-two = refl
+
+open_sum-alike : map open_sum (alike (pos 5) (pos 15) ∷ alike (negsuc 4) (negsuc 14) ∷ []) ≡ pos 10 ∷ pos 10 ∷ []
+open_sum-alike = refl
 
 -- the line of exponential lengths is reached at the first age of each group, and the newest r values end at r
 length-7 : 3 * exp_length 2 3 5 (window_index (exp_length 2 3 5) 15) ≡ (2 - 1) * 15 + 3 * 5
@@ -181,6 +188,12 @@ cover-40 = refl
 cover-41 : cover (power_length 1 0 4 5) 41 ≡ 4 * 2 ^ 1 + 1
 unfolding power_length window_index
 cover-41 = refl
+
+-- the four windows of the first group hold a value each
+power-newest : power_length 1 1 4 1 (window_index (power_length 1 1 4 1) 3) ∷ power_length 1 1 4 1 (window_index (power_length 1 1 4 1) 4)
+    ∷ power_length 1 1 4 2 (window_index (power_length 1 1 4 2) 0) ∷ [] ≡ 1 ∷ 2 ∷ 2 ∷ []
+unfolding power_length window_index
+power-newest = refl
 
 -- power 1 1 4 1: two groups hold 12 values in windows of 1 and 2, and the next window has three
 power-11 : power_length 1 1 4 1 (window_index (power_length 1 1 4 1) 11) ≡ 2
@@ -313,31 +326,41 @@ records-five : records_of (record one { params = exp 2 1 2; windows = windows (w
 unfolding window_index
 records-five = refl
 
+-- values in four minutes
+abbrev apart : List Point
+apart = (10, pos 5, New) ∷ (60, pos 3, New) ∷ (130, pos 8, New) ∷ (180, pos 1, New) ∷ []
+
 -- within minutes one value needs two records too, and the seven need one more than without a step
 abbrev within_minutes : Rule
 within_minutes = record { lengths = exp_length 2 1 1; step = 60 }
 
 records-one_minute : records_of (record one { windows = windows within_minutes ((10, pos 5, New) ∷ []) })
-    ≡ max 1 (2 * (cover (exp_length 2 1 1) 1 + steps_met 60 (10 ∷ []) - 1))
+    ≡ max 1 (2 * cover (exp_length 2 1 1) 1 + steps_met 60 (10 ∷ []) - 1)
 unfolding window_index
 records-one_minute = refl
+
+-- three values of one target window in three minutes need four, and one minute more one more
+records-three_minutes : map (λ (values : List Point). records_of (record one { windows = windows (record within_minutes { lengths = power_length 1 0 1 4 }) values }))
+    (take 3 apart ∷ apart ∷ []) ≡ (2 * 1 + 3 - 1) ∷ (2 * 1 + 4 - 1) ∷ []
+unfolding window_index power_length
+records-three_minutes = refl
 
 records-minutes : records_of (record one { windows = windows within_minutes seven }) ≡ records_of one + 1
 unfolding window_index
 records-minutes = refl
 
 -- two streams without a value need one record each, and a landmark with a value two more: the bounds of whole stores
-live-none : live (record one { windows = [] } ∷ record one { windows = [] } ∷ []) ≡ 2 * (max 1 (2 * 0) + 0)
+live-none : live (record one { windows = [] } ∷ record one { windows = [] } ∷ []) ≡ 2 * (max 1 0 + 0)
 live-none = refl
 
 live-marked : live (record one {
   windows = [];
   landmarks = record { start = 10; finish = Some 20; values = record { t = 11; v = pos 1 } ∷ [] } ∷ [];
-} ∷ []) ≡ 1 * (max 1 (2 * 0) + 2)
+} ∷ []) ≡ 1 * (max 1 0 + 2)
 live-marked = refl
 
 -- a stream with one value needs two, as one target window does for it
-live-one : live (record one { windows = windows (without_step (exp_length 2 1 1)) ((10, pos 5, New) ∷ []) } ∷ []) ≡ 1 * max 1 (2 * (1 * 1))
+live-one : live (record one { windows = windows (without_step (exp_length 2 1 1)) ((10, pos 5, New) ∷ []) } ∷ []) ≡ 1 * (max 1 (2 * (1 * 1) + 1 - 1) + 0)
 unfolding window_index
 live-one = refl
 
@@ -373,14 +396,52 @@ takes-marked : TakesAtMost [] 0 2 (record one {
 })
 takes-marked = record { windows = omega arith; landmarks = omega arith }
 
-takes-one : TakesAtMost (created ∷ valued ∷ []) 1 0
+takes-one : TakesAtMost (created ∷ valued ∷ []) 2 0
     (record one { name = 97 ∷ []; windows = windows (without_step (exp_length 2 1 1)) ((10, pos 5, New) ∷ []) })
 unfolding window_index
 takes-one = record { windows = omega arith; landmarks = omega arith }
 
-holds-seven : HoldsAtMost (exp 2 1 1) 7 one
+takes-less : ¬ TakesAtMost (created ∷ valued ∷ []) 1 0
+    (record one { name = 97 ∷ []; windows = windows (without_step (exp_length 2 1 1)) ((10, pos 5, New) ∷ []) })
 unfolding window_index
-holds-seven = record { params = refl; landmarks = refl; values = omega arith }
+takes-less takes = let few : 2 ≤ 1 = takes.windows in omega (arith, few)
+
+takes-unmarked : ¬ TakesAtMost [] 0 1 (record one {
+  windows = [];
+  landmarks = record { start = 10; finish = Some 20; values = record { t = 11; v = pos 1 } ∷ [] } ∷ [];
+})
+takes-unmarked takes = let few : 2 ≤ 1 = takes.landmarks in omega (arith, few)
+
+-- how many steps the values of a stream lie in: one where it has one value, and two where the next is of another minute
+abbrev minutes : List Happened
+minutes = created ∷ valued ∷ added (events.Value (97 ∷ []) 60 (pos 5)) ∷ []
+
+abbrev in_minutes : Stream
+in_minutes = record one { name = 97 ∷ []; params = record { family = families.Exp 2 1 1; within = Some 60 } }
+
+steps_of-minutes : steps_of [] in_minutes ∷ steps_of (created ∷ valued ∷ []) in_minutes ∷ steps_of minutes in_minutes ∷ steps_of minutes one
+    ∷ steps_of minutes (record one { name = 97 ∷ [] }) ∷ [] ≡ 0 ∷ 1 ∷ 2 ∷ 0 ∷ 1 ∷ []
+steps_of-minutes = refl
+
+-- seven values in two steps, with two landmarks and values of them, at the bounds and below each of them
+abbrev marked : Stream
+marked = record in_minutes { landmarks = record { start = 80; finish = Some 81; values = record { t = 80; v = pos 1 } ∷ [] } ∷ [] }
+
+holds-marked : HoldsAtMost minutes (families.Exp 2 1 1) 7 2 2 marked
+unfolding window_index
+holds-marked = record { family = refl; values = omega arith; steps = omega arith; landmarks = omega arith }
+
+holds-fewer : ¬ HoldsAtMost minutes (families.Exp 2 1 1) 6 2 2 marked
+unfolding window_index
+holds-fewer holds = let few : 7 ≤ 6 = holds.values in omega (arith, few)
+
+holds-one_step : ¬ HoldsAtMost minutes (families.Exp 2 1 1) 7 1 2 marked
+unfolding window_index
+holds-one_step holds = let few : 2 ≤ 1 = holds.steps in omega (arith, few)
+
+holds-one_mark : ¬ HoldsAtMost minutes (families.Exp 2 1 1) 7 2 1 marked
+unfolding window_index
+holds-one_mark holds = let few : 2 ≤ 1 = holds.landmarks in omega (arith, few)
 
 -- as many records as a store has
 most_records : MOST_RECORDS ≡ 1048576

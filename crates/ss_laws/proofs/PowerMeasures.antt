@@ -1,9 +1,9 @@
 -- How long the windows of a power-law target are by their age, and how many of them hold so many values.
-use Rattle.std.proofs.Common.{ℕ, zero, suc, ◌≡◌, ◌+◌, ◌-◌, ◌*◌, ◌^◌, ◌<◌, ◌≤◌, inl, inr, ap, ◌∙◌, arith}
+use Rattle.std.proofs.Common.{ℕ, zero, suc, ◌≡◌, ◌+◌, ◌-◌, ◌*◌, ◌^◌, ◌<◌, ◌≤◌, inl, inr, ap, ◌∙◌, arith, refl}
 use Rattle.std.proofs.Math.Nat.{mul-le-mul_left, mul-le-mul_right, pow-le-pow_left, pow-suc, pow-succ', pow-zero, le_trans}
 use Rattle.std.proofs.lemmas.Bool.{cases_lt}
 use Rattle.ss_targets.specs.Windowing.{cut, window_index}
-use Rattle.ss_targets.proofs.WindowingLemmas.{cut-monotone, holds-window_index}
+use Rattle.ss_targets.proofs.WindowingLemmas.{cut-monotone, holds-window_index, index_le_cut}
 use Rattle.ss_targets.specs.Power.{group_size, power_length, IsPower}
 use Rattle.ss_targets.specs.PowerLaws.{power_length-positive}
 use Rattle.ss_targets.specs.PowerSum.{power_sum}
@@ -94,3 +94,21 @@ length-power p q r s age g h young =
       | inr after ↦ absurd (omega (arith, young, cut-above p q r s g h, mul-le-mul_left (p + q) (le_trans (cut-monotone len k i after) begun)))
     ] in
     length-before p q r s g i h inside
+
+one-pow : (n : ℕ) → 1 ^ n ≡ 1
+one-pow zero = refl
+one-pow (suc n) = omega (arith, pow-suc 1 n, one-pow n)
+
+-- the first group has r windows, each of one value where s is 1
+pub length-power_newest : (p q r age : ℕ) → IsPower p q r 1 → age < r → power_length p q r 1 (window_index (power_length p q r 1) age) ≡ 1
+length-power_newest p q r age h young =
+    let len = power_length p q r 1 in
+    let i = window_index len age in
+    let begun = (holds-window_index len age (power_length-positive h)).start in
+    let early = index_le_cut len i (power_length-positive h) in
+    let begins : cut (group_size p r) 1 ≡ 0 + r * 1 ^ (p - 1) = refl in
+    let whole : 0 + r * 1 ^ (p - 1) ≡ r = rw one-pow (omega arith) in
+    let first : cut (group_size p r) 1 ≡ r = begins ∙ whole in
+    let inside : i < cut (group_size p r) 1 = omega (arith, begun, early, young, first) in
+    let short : len i ≤ 1 = omega (arith, length-before p q r 1 1 i h inside, one-pow q) in
+    omega (arith, short, power_length-positive h i)

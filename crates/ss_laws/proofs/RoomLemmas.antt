@@ -6,19 +6,19 @@ use Rattle.std.proofs.lemmas.Bool.Decides.{nat_tests}
 use Rattle.std.proofs.lemmas.List.Elements.{All-head, All-tail, All-weaker}
 use Rattle.std.proofs.lemmas.List.Sums.{sum_by-cons}
 use Rattle.std.specs.Prelude.{All, max}
-use Rattle.ss_catalog.specs.Params.{exp, power}
 use Rattle.ss_catalog.specs.declared.event.Event.{Event}
 use Rattle.ss_catalog.specs.declared.event.Event.TheVariants.{Close, Create, Drop, Open, Value}
-use Rattle.ss_catalog.specs.declared.params.Params.{Params}
+use Rattle.ss_catalog.specs.declared.params.Family.{Family}
+use Rattle.ss_catalog.specs.declared.params.Family.TheVariants.{Exp, Power}
 use Rattle.ss_catalog.specs.declared.refusal.Refusal.{Refusal}
 use Rattle.ss_catalog.specs.declared.refusal.Refusal.TheVariants as refusal
 use Rattle.ss_landmarks.specs.Landmark.{all_values}
 use Rattle.ss_laws.proofs.ExpMeasures.{cover-exp}
 use Rattle.ss_laws.proofs.PowerMeasures.{cover-power}
-use Rattle.ss_laws.proofs.SizeLemmas.{records-alone, records-few}
-use Rattle.ss_laws.specs.Sizes.{HoldsAtMost, TakesAtMost}
-use Rattle.ss_model.specs.Decay.{cover, steps_met}
-use Rattle.ss_model.specs.History.{Happened, values_of}
+use Rattle.ss_laws.proofs.SizeLemmas.{records-few}
+use Rattle.ss_laws.specs.Sizes.{HoldsAtMost, TakesAtMost, steps_of}
+use Rattle.ss_model.specs.Decay.{cover}
+use Rattle.ss_model.specs.History.{Happened}
 use Rattle.ss_model.specs.Marks.{has_open}
 use Rattle.ss_model.specs.Refusals.{first_that_applies, has_all_records, has_all_streams, has_most_values, is_before, is_early, is_past, of_outline, refuses}
 use Rattle.ss_model.specs.Outline.{outline_named}
@@ -27,9 +27,7 @@ use Rattle.std.specs.Prelude.{is_some}
 use Rattle.ss_model.specs.State.{Stream, live, records_of, state, values_in}
 use Rattle.ss_model.specs.declared.types.TheConstants.{MOST_RECORDS}
 use Rattle.ss_targets.specs.Power.{IsPower}
-use Rattle.ss_summary.specs.Points.{Point}
-use Rattle.ss_targets.specs.Lengths.{has_target, lengths_of}
-use Rattle.ss_targets.specs.Rule.{rule_of}
+use Rattle.ss_targets.specs.Lengths.{family_lengths, has_target, lengths_of}
 use Rattle.ss_targets.specs.Exp.{IsExp}
 
 -- streams of which each needs at most so many
@@ -45,46 +43,42 @@ live-few (s ∷ ss) few most each all =
 -- how many a stream needs, by its windows, its steps and its landmarks
 abbrev needed : List Happened → Stream → ℕ
 needed history s =
-    max 1 (2 * (cover (lengths_of s.params) (values_in s) + steps_met (rule_of s.params).step (map (λ (p : Point). p.0) (values_of history s.name)) - 1))
-    + length s.landmarks + length (all_values s.landmarks)
+    max 1 (2 * cover (lengths_of s.params) (values_in s) + steps_of history s - 1) + length s.landmarks + length (all_values s.landmarks)
 
 pub live-takes : (history : List Happened) (k m : ℕ) → All (TakesAtMost history k m) (state history) →
-    live (state history) ≤ length (state history) * (max 1 (2 * k) + m)
+    live (state history) ≤ length (state history) * (max 1 k + m)
 live-takes history k m all =
-    live-few (state history) (needed history) (max 1 (2 * k) + m) (records-few history)
-    (All-weaker (TakesAtMost history k m) (λ s. needed history s ≤ max 1 (2 * k) + m) (λ s takes. omega (arith, takes.windows, takes.landmarks))
+    live-few (state history) (needed history) (max 1 k + m) (records-few history)
+    (All-weaker (TakesAtMost history k m) (λ s. needed history s ≤ max 1 k + m) (λ s takes. omega (arith, takes.windows, takes.landmarks))
     (state history) all)
 
--- streams of one target without a step, of whose values so many target windows cover the most
-abbrev IsAlone : Stream → Type 0
-IsAlone s = s.params.within ≡ None → records_of s ≤
-    max 1 (2 * cover (lengths_of s.params) (values_in s)) + length s.landmarks + length (all_values s.landmarks)
-
-live-alike : (params : Params) (n k : ℕ) → params.within ≡ None → ((x : ℕ) → x ≤ n → cover (lengths_of params) x ≤ k) → (streams : List Stream)
-    → All IsAlone streams → All (HoldsAtMost params n) streams → live streams ≤ length streams * max 1 (2 * k)
-live-alike params n k none covers [] alone all = omega arith
-live-alike params n k none covers (s ∷ ss) alone all =
-    let holds : HoldsAtMost params n s = All-head (HoldsAtMost params n) s ss all in
-    let same : s.params ≡ params = holds.params in
-    let few = All-head IsAlone s ss alone (ap (λ (p : Params). p.within) same ∙ none) in
+-- streams of one family, of whose values so many target windows cover the most
+TakesAtMost-holds : (history : List Happened) (those : Family) (n steps m k : ℕ) → ((x : ℕ) → x ≤ n → cover (family_lengths those) x ≤ k) →
+    (s : Stream) → HoldsAtMost history those n steps m s → TakesAtMost history (2 * k + steps - 1) m s
+TakesAtMost-holds history those n steps m k covers s holds =
     let covered : cover (lengths_of s.params) (values_in s) ≤ k =
-    subst (λ (p : Params). cover (lengths_of p) (values_in s) ≤ k) (sym same) (covers (values_in s) holds.values) in
-    let unmarked : length s.landmarks ≡ 0 = ap length holds.landmarks in
-    let valueless : length (all_values s.landmarks) ≡ 0 = ap (λ l. length (all_values l)) holds.landmarks in
-    let others = live-alike params n k none covers ss (All-tail IsAlone s ss alone) (All-tail (HoldsAtMost params n) s ss all) in
-    omega (arith, few, covered, unmarked, valueless, others, sum_by-cons records_of s ss, suc-mul (length ss) (max 1 (2 * k)))
+    subst (λ (f : Family). cover (family_lengths f) (values_in s) ≤ k) (sym holds.family) (covers (values_in s) holds.values) in
+    record { windows = omega (arith, covered, holds.steps); landmarks = holds.landmarks }
 
-pub live-exp : (history : List Happened) (b r s n g : ℕ) → IsExp b r s → (b - 1) * n ≤ r * s * (b ^ g - 1) →
-    All (HoldsAtMost (exp b r s) n) (state history) → live (state history) ≤ length (state history) * max 1 (2 * (r * g))
-live-exp history b r s n g is enough all =
-    live-alike (exp b r s) n (r * g) refl (λ x less. cover-exp b r s x g is (le_trans (mul-le-mul_left (b - 1) less) enough)) (state history)
-    (records-alone history) all
+live-alike : (history : List Happened) (those : Family) (n steps m k : ℕ) → ((x : ℕ) → x ≤ n → cover (family_lengths those) x ≤ k) →
+    All (HoldsAtMost history those n steps m) (state history) → live (state history) ≤ length (state history) * (max 1 (2 * k + steps - 1) + m)
+live-alike history those n steps m k covers all =
+    live-takes history (2 * k + steps - 1) m
+    (All-weaker (HoldsAtMost history those n steps m) (TakesAtMost history (2 * k + steps - 1) m) (TakesAtMost-holds history those n steps m k covers)
+    (state history) all)
 
-pub live-power : (history : List Happened) (p q r s n g : ℕ) → IsPower p q r s → (p + q) * n ≤ r * s * g ^ (p + q) →
-    All (HoldsAtMost (power p q r s) n) (state history) → live (state history) ≤ length (state history) * max 1 (2 * (r * g ^ p))
-live-power history p q r s n g is enough all =
-    live-alike (power p q r s) n (r * g ^ p) refl (λ x less. cover-power p q r s x g is (le_trans (mul-le-mul_left (p + q) less) enough)) (state history)
-    (records-alone history) all
+pub live-exp : (history : List Happened) (b r s n g steps m : ℕ) → IsExp b r s → (b - 1) * n ≤ r * s * (b ^ g - 1) →
+    All (HoldsAtMost history (Exp b r s) n steps m) (state history) →
+    live (state history) ≤ length (state history) * (max 1 (2 * (r * g) + steps - 1) + m)
+live-exp history b r s n g steps m is enough all =
+    live-alike history (Exp b r s) n steps m (r * g) (λ x less. cover-exp b r s x g is (le_trans (mul-le-mul_left (b - 1) less) enough)) all
+
+pub live-power : (history : List Happened) (p q r s n g steps m : ℕ) → IsPower p q r s → (p + q) * n ≤ r * s * g ^ (p + q) →
+    All (HoldsAtMost history (Power p q r s) n steps m) (state history) →
+    live (state history) ≤ length (state history) * (max 1 (2 * (r * g ^ p) + steps - 1) + m)
+live-power history p q r s n g steps m is enough all =
+    live-alike history (Power p q r s) n steps m (r * g ^ p)
+    (λ x less. cover-power p q r s x g is (le_trans (mul-le-mul_left (p + q) less) enough)) all
 
 -- the last of four refusals doesn't apply, nor is it one of the others
 last-unapplied : (a b c d : Bool) (p q r s : Refusal) → p ≢ s → q ≢ s → r ≢ s → d ≡ false →

@@ -21,26 +21,26 @@ abbrev times : List Point → List ℕ
 times values = map (λ (p : Point). p.0) values
 
 few-windows : (rule : Rule) (values : List Point) →
-    length (windows rule values) + 1 ≤ max 1 (2 * (cover rule.lengths (length values) + steps_met rule.step (times values) - 1))
+    length (windows rule values) + 1 ≤ max 1 (2 * cover rule.lengths (length values) + steps_met rule.step (times values) - 1)
 few-windows rule [] = omega arith
 few-windows rule (p ∷ ps) = omega (arith, length-windows_met rule (p ∷ ps) (omega arith))
 
 few-taken : (rule : Rule) (values : List Point) →
-    length (windows rule values) + 1 ≤ max 1 (2 * (cover rule.lengths (taken (windows rule values)) + steps_met rule.step (times values) - 1))
+    length (windows rule values) + 1 ≤ max 1 (2 * cover rule.lengths (taken (windows rule values)) + steps_met rule.step (times values) - 1)
 few-taken rule values =
-    subst (λ n. length (windows rule values) + 1 ≤ max 1 (2 * (cover rule.lengths n + steps_met rule.step (times values) - 1)))
+    subst (λ n. length (windows rule values) + 1 ≤ max 1 (2 * cover rule.lengths n + steps_met rule.step (times values) - 1))
     (sym (taken-windows rule values)) (few-windows rule values)
 
 pub records-few : (history : List Happened) → All (λ s. let times = map (λ (p : Point). p.0) (values_of history s.name) in
-    records_of s ≤ max 1 (2 * (cover (lengths_of s.params) (values_in s) + steps_met (rule_of s.params).step times - 1))
+    records_of s ≤ max 1 (2 * cover (lengths_of s.params) (values_in s) + steps_met (rule_of s.params).step times - 1)
     + length s.landmarks + length (all_values s.landmarks)) (state history)
 records-few history =
     All-state (λ s. let times = map (λ (p : Point). p.0) (values_of history s.name) in
-    records_of s ≤ max 1 (2 * (cover (lengths_of s.params) (values_in s) + steps_met (rule_of s.params).step times - 1))
+    records_of s ≤ max 1 (2 * cover (lengths_of s.params) (values_in s) + steps_met (rule_of s.params).step times - 1)
     + length s.landmarks + length (all_values s.landmarks)) history
     (λ c. let few = few-taken (rule_of c.params) (values_of history c.name) in omega (arith, few))
 
-steps_met-alone : (ts : List ℕ) → steps_met 0 ts ≤ 1
+pub steps_met-alone : (ts : List ℕ) → steps_met 0 ts ≤ 1
 steps_met-alone [] = omega arith
 steps_met-alone (t ∷ ts) = omega (arith, steps_after-none t ts)
 

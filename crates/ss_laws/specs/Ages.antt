@@ -1,5 +1,8 @@
--- How far back an end of a range lies, and how much a window that it cuts leaves open.
-use Rattle.std.specs.Prelude.{ℕ, ◌+◌, ◌-◌, Bool, false, ◌&&◌, ◌||◌, nat_le, nat_lt, if◌then◌else◌, List, [], ◌∷◌}
+-- How far back an end of a range lies, and how much a window that it cuts leaves open: of a count, and of a sum.
+use Rattle.std.specs.Prelude.{ℕ, ◌+◌, ◌-◌, Bool, false, ◌&&◌, ◌||◌, nat_le, nat_lt, if◌then◌else◌, ℤ, pos, ◌-ℤ◌, ◌*ℤ◌, List, [], ◌∷◌, map}
+use Rattle.std.specs.Int.{int_max, int_min}
+use Rattle.ss_bounds.specs.Split.{SplitFigures}
+use Rattle.ss_bounds.specs.Truth.{total}
 use Rattle.ss_summary.specs.Points.{Point}
 use Rattle.ss_targets.specs.Windowing.{window_index}
 use Rattle.ss_model.specs.declared.types.Window.{Window}
@@ -25,3 +28,11 @@ length_at len t values = len (window_index len (values_since t values - 1))
 -- how many values a window that this time cuts leaves open at most: all but its first and its last; 0 where none is cut
 abbrev pub open_at : (ℕ → ℕ) → ℕ → List Point → List Window → ℕ
 open_at len t values ws = if cuts t ws then length_at len t values - 2 else 0
+
+-- how much a window that a range splits leaves a sum open at most: one less than its number of values, times how far it is from the lesser of
+-- 0 and its least value to the greater of 0 and its greatest; and several windows
+abbrev pub open_sum : SplitFigures → ℤ
+open_sum s = pos (s.count - 1) *ℤ (int_max (pos 0) s.max -ℤ int_min (pos 0) s.min)
+
+abbrev pub open_sums : List SplitFigures → ℤ
+open_sums splits = total (map open_sum splits)

@@ -1,6 +1,6 @@
 -- How many records streams need, and how many slots of a file those of a history use.
-use Rattle.std.specs.Prelude.{◌≡◌, ℕ, ◌+◌, ◌-◌, ◌≤◌, max, List, [], ◌∷◌, ◌++◌, length, map}
-use Rattle.ss_catalog.specs.declared.params.Params.{Params}
+use Rattle.std.specs.Prelude.{◌≡◌, ℕ, ◌+◌, ◌-◌, ◌*◌, ◌≤◌, max, List, [], ◌∷◌, ◌++◌, length, map}
+use Rattle.ss_catalog.specs.declared.params.Family.{Family}
 use Rattle.ss_landmarks.specs.Landmark.{all_values}
 use Rattle.ss_model.specs.Decay.{cover, steps_met}
 use Rattle.ss_model.specs.History.{Happened, values_of}
@@ -19,15 +19,19 @@ UsesFewSlots extent history = (before after : List Happened) (e : Happened) → 
 abbrev pub NeedsAtMost : ℕ → List Happened → Type 0
 NeedsAtMost most history = (before after : List Happened) (e : Happened) → history ≡ before ++ e ∷ after → live (state before) ≤ most
 
--- K target windows cover the values of a stream and their times lie in B steps, where K + B - 1 is at most k, and it has at most m
+-- how many steps the values of a stream lie in
+abbrev pub steps_of : List Happened → Stream → ℕ
+steps_of history s = steps_met (rule_of s.params).step (map (λ (p : Point). p.0) (values_of history s.name))
+
+-- K target windows cover the values of a stream and their times lie in B steps, where 2K + B - 1 is at most k, and it has at most m
 -- landmarks and values of landmarks
 pub record TakesAtMost (history : List Happened) (k m : ℕ) (s : Stream) : Type 0 where
-  pub windows : cover (lengths_of s.params) (values_in s)
-      + steps_met (rule_of s.params).step (map (λ (p : Point). p.0) (values_of history s.name)) - 1 ≤ k
+  pub windows : 2 * cover (lengths_of s.params) (values_in s) + steps_of history s - 1 ≤ k
   pub landmarks : length s.landmarks + length (all_values s.landmarks) ≤ m
 
--- a stream has these parameters, no landmarks, and at most so many values
-pub record HoldsAtMost (those : Params) (n : ℕ) (s : Stream) : Type 0 where
-  pub params : s.params ≡ those
-  pub landmarks : s.landmarks ≡ []
+-- a stream has target windows of this family, at most n values in at most d steps, and at most m landmarks and values of landmarks
+pub record HoldsAtMost (history : List Happened) (those : Family) (n d m : ℕ) (s : Stream) : Type 0 where
+  pub family : s.params.family ≡ those
   pub values : values_in s ≤ n
+  pub steps : steps_of history s ≤ d
+  pub landmarks : length s.landmarks + length (all_values s.landmarks) ≤ m

@@ -1,11 +1,10 @@
 // Laws on how wide an answer is, each the contract of a function that does nothing.
-ghost use Rattle.std.specs.Prelude.{◌+◌, ◌-◌, ◌≤◌, ℕ, Bool, ℤ, pos, ◌+ℤ◌, ◌-ℤ◌, ◌*ℤ◌, ◌≤ℤ◌, List, All};
-ghost use Rattle.std.specs.Int.{int_max, int_min};
+ghost use Rattle.std.specs.Prelude.{◌+◌, ◌≤◌, ℕ, Bool, ◌+ℤ◌, ◌≤ℤ◌, List, All};
 ghost use Rattle.ss_bounds.specs.Split.{IsSplit, SplitFigures, sum_interval};
 ghost use Rattle.ss_landmarks.specs.Free.{is_free};
-ghost use Rattle.ss_laws.specs.Ages.{open_at};
+ghost use Rattle.ss_laws.specs.Ages.{open_at, open_sum, open_sums};
 ghost use Rattle.ss_model.specs.History.{Happened, values_of};
-ghost use Rattle.ss_model.specs.Interval.{interval_of_count};
+ghost use Rattle.ss_model.specs.Interval.{interval_of_count, interval_of_sum, split_windows};
 ghost use Rattle.ss_model.specs.Marks.{marked_values};
 ghost use Rattle.ss_model.specs.Refusals.{IsHistory};
 ghost use Rattle.ss_targets.specs.Rule.{Rule};
@@ -29,8 +28,11 @@ pub fn counts_are_as_wide_as_their_ages()
         answer.1 ≤ answer.0 + open_at len from plain s.windows + open_at len (to + 1) plain s.windows) (state history) }
 {}
 
-/// A sum is left open by no more than the values between the first and the last of each window that the range splits, each of them 0
-/// or that window's least or greatest value.
+/// A sum is left open by no more than all but one of the values of each window that the range splits, each of them 0 or that window's least
+/// or greatest value: of one such window, and in the state of each history.
 pub fn sums_are_as_wide_as_their_values()
-    ensures { (s : SplitFigures) → IsSplit s → (sum_interval s).1 ≤ℤ ((sum_interval s).0 +ℤ pos (s.count - 1) *ℤ (int_max (pos 0) s.max -ℤ int_min (pos 0) s.min)) }
+    ensures of_window { (s : SplitFigures) → IsSplit s → (sum_interval s).1 ≤ℤ ((sum_interval s).0 +ℤ open_sum s) }
+    ensures of_histories { (history : List Happened) (from to : ℕ) → IsHistory history →
+        All (λ s. let answer = interval_of_sum (is_free s.landmarks) from to s.windows (marked_values s.landmarks) in
+        answer.1 ≤ℤ (answer.0 +ℤ open_sums (split_windows (is_free s.landmarks) from to s.windows))) (state history) }
 {}

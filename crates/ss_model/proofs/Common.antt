@@ -83,7 +83,7 @@ pub use Rattle.ss_model.specs.State.{stream_after, stream_named, values_in}
 pub use Rattle.ss_model.specs.Steps.{ack_of, change_named, single_window, stepped, stepped_from, with_plain_value, with_taken, without_named}
 pub use Rattle.ss_model.specs.Tiling.{AreNeighbours, AreWindows, StandFrom}
 pub use Rattle.ss_model.specs.Truth.{RiseAtFree, true_count, true_greatest, true_least, true_presence, true_sum}
-pub use Rattle.ss_model.specs.WholeSteps.{AreWholeSteps, HasWholeRows, IsWithin}
+pub use Rattle.ss_model.specs.WholeSteps.{AreWholeSteps, HasWholeRows, IsWithin, reached_by, reached_in}
 pub use Rattle.ss_model.specs.Windows.{newest_time, stretches, taken, time_at, time_of_last, windows}
 pub use Rattle.ss_model.specs.declared.newest.Known.{Known}
 pub use Rattle.ss_model.specs.declared.newest.Newest.{Newest}

@@ -227,6 +227,42 @@ length-none_due rule n first t (w ∷ v ∷ vs) tiles none =
           omega arith)
     ]
 
+-- Of windows in one step each: one for each other step that comes, and at most two for each earlier target window that does, since the
+-- second of them ends in a later target window than the first begins in.
+length-in_steps : (rule : Rule) (n first : ℕ) (w : Window) (ws : List Window) → TileFrom first (w ∷ ws) → NoneIsDue rule n (w ∷ ws) →
+    All (IsInStep rule.step) (w ∷ ws) →
+    length (w ∷ ws) ≤ window_index rule.lengths (n - first) + window_index rule.lengths (n - last_position w)
+    + steps_after rule.step w.summary.t_last (ends_of ws) + 1
+length-in_steps rule n first w [] tiles none inside = omega arith
+length-in_steps rule n first w (v ∷ vs) tiles none inside =
+    let len = rule.lengths in
+    let c : ℕ → ℕ = step_of rule.step in
+    let f = w.summary in
+    let g = v.summary in
+    let front = tiles.0 in
+    let some = tiles.1 in
+    let behind = tiles.2.0 in
+    let some_behind = tiles.2.1 in
+    let next = first + w.summary.count in
+    let all = All-tail (IsInStep rule.step) w (v ∷ vs) inside in
+    let rest = length-in_steps rule n next v vs tiles.2 none.1 all in
+    let same : n - w.first ≡ n - first = omega arith in
+    let own = window_index-monotone len (n - last_position w) (n - first) (omega arith) in
+    let across = window_index-monotone len (n - next) (n - last_position w) (omega arith) in
+    let own_behind = window_index-monotone len (n - last_position v) (n - next) (omega arith) in
+    elim (cases_Bool (in_step rule.step f.t_first g.t_last)) [
+      | inl one ↦
+          (let unfit : fits len w.first (last_position v) n ≡ false = rw one at none.0 in
+          let later = rw same at (window_index-apart len w.first (last_position v) n (omega arith) unfit) in
+          omega arith)
+      | inr other ↦
+          (let held : c f.t_first ≡ c f.t_last = eqb-true _ _ (All-head (IsInStep rule.step) w (v ∷ vs) inside) in
+          let held_behind : c g.t_first ≡ c g.t_last = eqb-true _ _ (All-head (IsInStep rule.step) v vs all) in
+          let entered : apart (c f.t_last) (c g.t_first) ≡ 1 =
+          apart-ne _ _ (λ (one : c f.t_last ≡ c g.t_first). eqb-false _ _ other (held ∙ one ∙ held_behind)) in
+          omega arith)
+    ]
+
 -- the last times of windows are among those that they are of
 steps_after-end : (step t : ℕ) (ps : List Point) (us : List ℕ) →
     apart (step_of step t) (step_of step (time_at_end t ps)) + steps_after step (time_at_end t ps) us ≤ steps_after step t (map (λ (p : Point). p.0) ps ++ us)
@@ -297,13 +333,27 @@ length_cover rule (suc age) t ws tiles none some =
     let bound = rw same at (length-none_due rule (suc age) 1 t ws tiles none) in
     omega arith
 
+-- so at most two for each target window, and one for each step, without two
+length_cover-in_steps : (rule : Rule) (n t : ℕ) (ws : List Window) → TileFrom 1 ws → NoneIsDue rule n ws → All (IsInStep rule.step) ws → 0 < n →
+    length ws + 1 ≤ 2 * cover rule.lengths n + steps_after rule.step t (ends_of ws)
+length_cover-in_steps rule zero t ws tiles none inside some = absurd (omega arith)
+length_cover-in_steps rule (suc age) t [] tiles none inside some = omega arith
+length_cover-in_steps rule (suc age) t (w ∷ ws) tiles none inside some =
+    let same : suc age - 1 ≡ age = omega arith in
+    let front = tiles.0 in
+    let count = tiles.1 in
+    let bound = rw same at (length-in_steps rule (suc age) 1 w ws tiles none inside) in
+    let own = window_index-monotone rule.lengths (suc age - last_position w) age (omega arith) in
+    omega arith
+
 pub length-windows_met : (rule : Rule) (values : List Point) → 0 < length values →
-    length (windows rule values) + 1 ≤ 2 * (cover rule.lengths (length values) + steps_met rule.step (map (λ (p : Point). p.0) values) - 1)
+    length (windows rule values) + 2 ≤ 2 * cover rule.lengths (length values) + steps_met rule.step (map (λ (p : Point). p.0) values)
 length-windows_met rule [] some = absurd (omega arith)
 length-windows_met rule (p ∷ ps) some =
     let n = length (p ∷ ps) in
     let time = time_at (p ∷ ps) in
-    let bound = length_cover rule n p.0 (windows rule (p ∷ ps)) (TileFrom-windows rule (p ∷ ps)) (NoneIsDue-windows rule (p ∷ ps)) some in
+    let bound = length_cover-in_steps rule n p.0 (windows rule (p ∷ ps)) (TileFrom-windows rule (p ∷ ps)) (NoneIsDue-windows rule (p ∷ ps))
+    (IsInStep-windows rule (p ∷ ps)) some in
     let fewer = steps_after-stretches rule.step p.0 0 n (boundaries rule time n) (p ∷ ps) (omega arith) (Rises-boundaries rule time n some) in
     omega (arith, apart-same (step_of rule.step p.0))
 
@@ -314,6 +364,17 @@ length-closed_met rule n (w ∷ ws) tiles all some =
     let t = w.summary.t_first in
     let bound = length_cover rule n t (closed rule n (w ∷ ws)) (TileFrom-closed rule n (w ∷ ws) (TileFrom-StandFrom 1 0 (w ∷ ws) tiles.stand))
     (NoneIsDue-closed rule n (w ∷ ws) tiles) some in
+    let fewer = steps_after-closed_onto rule n t w ws in
+    omega (arith, apart-same (step_of rule.step t))
+
+pub length-closed_within : (rule : Rule) (n : ℕ) (ws : List Window) → AreWindows ws → All (IsInStep rule.step) ws → taken ws ≡ n → 0 < n →
+    length (closed rule n ws) + 2 ≤ 2 * cover rule.lengths n + steps_met rule.step (ends_of ws)
+length-closed_within rule n [] tiles inside all some = absurd (omega arith)
+length-closed_within rule n (w ∷ ws) tiles inside all some =
+    let t = w.summary.t_first in
+    let bound = length_cover-in_steps rule n t (closed rule n (w ∷ ws))
+    (TileFrom-closed rule n (w ∷ ws) (TileFrom-StandFrom 1 0 (w ∷ ws) tiles.stand)) (NoneIsDue-closed rule n (w ∷ ws) tiles)
+    (IsInStep-closed rule n (w ∷ ws) inside) some in
     let fewer = steps_after-closed_onto rule n t w ws in
     omega (arith, apart-same (step_of rule.step t))
 

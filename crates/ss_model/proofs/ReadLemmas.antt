@@ -1,5 +1,5 @@
 -- What is read off the state of a history.
-use Rattle.ss_model.proofs.Common.{◌≡◌, ◌≢◌, ℕ, ◌+◌, ◌-◌, ◌*◌, ◌<◌, ◌≤◌, false, true, List, [], ◌∷◌, length, map, get_or, refl, ap, sym, subst, ◌∙◌, arith}
+use Rattle.ss_model.proofs.Common.{◌≡◌, ◌≢◌, ℕ, ◌+◌, ◌*◌, ◌<◌, ◌≤◌, false, true, List, [], ◌∷◌, length, map, get_or, refl, ap, sym, subst, ◌∙◌, arith}
 use Rattle.ss_model.proofs.Common.{None, Some, inl, inr, All, Option, cases_Bool, cond_both, find-append, event_name, same_name, Event, Create, Value, Open}
 use Rattle.ss_model.proofs.Common.{Close, Drop, has_target, lengths_of, Point, Origin, cover, steps_met, IsWithinTarget, values_of, Happened, has_open}
 use Rattle.ss_model.proofs.Common.{with_closed, with_marked, with_opened, IsHistory, IsStream, rule_of, Created, Stream, standing, stream_after, stream_named}
@@ -58,11 +58,11 @@ stream_named-stepped origin streams (Close other t) name apart =
     named-changed_other name other (λ s. record s { landmarks = with_closed s.landmarks t }) streams apart (λ s. refl)
 stream_named-stepped origin streams (Drop other) name apart = stream_named-without name other streams apart
 
-pub decay-state : (history : List Happened) → All (λ s. 0 < values_in s → length s.windows + 1 ≤ 2 * (cover (lengths_of s.params) (values_in s)
-    + steps_met (rule_of s.params).step (map (λ (p : Point). p.0) (values_of history s.name)) - 1)) (state history)
+pub decay-state : (history : List Happened) → All (λ s. 0 < values_in s → length s.windows + 2 ≤ 2 * cover (lengths_of s.params) (values_in s)
+    + steps_met (rule_of s.params).step (map (λ (p : Point). p.0) (values_of history s.name))) (state history)
 decay-state history =
-    All-state (λ s. 0 < values_in s → length s.windows + 1 ≤ 2 * (cover (lengths_of s.params) (values_in s)
-    + steps_met (rule_of s.params).step (map (λ (p : Point). p.0) (values_of history s.name)) - 1)) history
+    All-state (λ s. 0 < values_in s → length s.windows + 2 ≤ 2 * cover (lengths_of s.params) (values_in s)
+    + steps_met (rule_of s.params).step (map (λ (p : Point). p.0) (values_of history s.name))) history
     (λ c some.
     let rule = rule_of c.params in
     let values = values_of history c.name in

@@ -97,6 +97,12 @@ steps_met-none : met 0 ([] ∷ (59 ∷ []) ∷ (0 ∷ 59 ∷ 60 ∷ 119 ∷ 120 
 unfolding met
 steps_met-none = refl
 
+-- of one target window and three steps three windows stand, the most that may
+windows-steps : length (windows (fours_within 10) ((8, pos 0, New) ∷ (12, pos 0, New) ∷ (21, pos 0, New) ∷ [])) + 2
+    ≡ 2 * cover (fours_within 10).lengths 3 + steps_met 10 (8 ∷ 12 ∷ 21 ∷ [])
+unfolding window_index power_length fours_within bit_of filter_of union
+windows-steps = refl
+
 -- windows of one target window and two steps, of which the second crosses from the one step into the other: three stand, the most that may
 holding : ℕ → ℕ → ℕ → ℕ → Window
 holding first count t_first t_last = record {

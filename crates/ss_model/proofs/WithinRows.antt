@@ -1,7 +1,7 @@
 -- Worked rows of streams whose windows cross no boundary of the clock, each computed from a history.
 use Rattle.ss_model.proofs.Common.{◌≡◌, ℕ, List, [], ◌∷◌, length, map, take, Some, None, refl, pos, negsuc, arith, codes, exp, power, row_query, rows_of}
 use Rattle.ss_model.proofs.Common.{Create, Value, Open, Close, Params, Query, Param, Exists, Series, last_position, Happened, added, Stream, AreWholeSteps}
-use Rattle.ss_model.proofs.Common.{HasWholeRows, IsWithin, Sum, Window}
+use Rattle.ss_model.proofs.Common.{HasWholeRows, IsWithin, inl, inr, reached_by, Sum, Window}
 use Rattle.std.proofs.Common.{ℤ}
 use Rattle.ss_bounds.specs.Split.{sum_interval}
 use Rattle.ss_catalog.specs.Series.{numbers_from}
@@ -65,19 +65,39 @@ unfolding outcome_of state window_index sum_interval readings sum_of a within
 answers-part = refl
 
 -- what the law on whole steps asks for
-whole-minutes : HasWholeRows 60 minutes
+whole-minutes : HasWholeRows 60 (Some 70) minutes
 unfolding minutes
-whole-minutes = record { range = record { start = refl; end = refl }; rows = refl; some = omega arith }
+whole-minutes = record { range = record { start = refl; end = inl refl }; rows = refl; some = omega arith }
 
 within-readings : IsWithin 60 (state readings) a
 unfolding state window_index readings a within
 within-readings = refl
 
-whole-none : AreWholeSteps 60 0 118 → ⊥
-whole-none whole = let wrong : 59 ≡ 0 = whole.end in omega (arith, wrong)
+reached-readings : map (reached_by (state readings)) (a ∷ codes "b" ∷ []) ≡ Some 70 ∷ None ∷ []
+unfolding state window_index readings a within
+reached-readings = refl
 
-whole-late : AreWholeSteps 60 1 119 → ⊥
+-- a range ends before a boundary, at the newest time or after it, or anywhere where there is none
+whole-newest : AreWholeSteps 60 (Some 70) 60 70 × AreWholeSteps 60 (Some 70) 0 119 × AreWholeSteps 60 None 60 61
+whole-newest = (
+  record { start = refl; end = inr (omega arith) },
+  record { start = refl; end = inl refl },
+  record { start = refl; end = inr tt },
+)
+
+whole-none : AreWholeSteps 60 (Some 70) 0 69 → ⊥
+whole-none whole = elim whole.end [
+  | inl boundary ↦ (let wrong : 10 ≡ 0 = boundary in omega (arith, wrong))
+  | inr late ↦ omega (arith, late)
+]
+
+whole-late : AreWholeSteps 60 (Some 70) 1 119 → ⊥
 whole-late whole = let wrong : 1 ≡ 0 = whole.start in omega (arith, wrong)
+
+answers-newest : map (outcome_of (state readings)) (sum_of 60 70 ∷ sum_of 0 4611686018427387904 ∷ []) ≡
+    Some (Sum (pos 9) (pos 9)) ∷ Some (Sum (pos 29) (pos 29)) ∷ []
+unfolding outcome_of state window_index sum_interval readings sum_of a within
+answers-newest = refl
 
 -- a landmark over a boundary: 9 to 10 is its own, 11 to 19 and 20 to 21 are in different tens
 tens : List Happened

@@ -29,10 +29,13 @@ pub fn decay_bound()
         length (closed (without_step len) n ws) + 1 ≤ 2 * cover len n }
 {}
 
-/// Under any rule, where K target windows cover the values and their times lie in B steps, at most 2(K + B - 1) - 1 windows stand.
+/// Under any rule, where K target windows cover the values and their times lie in B steps, at most 2K + B - 2 windows stand: those of some
+/// values, and those that were just closed, where each lies in one step. Of any others that were just closed at most 2(K + B - 1) - 1 stand.
 pub fn decay_bound_with_steps()
-    ensures of_values { (rule : Rule) (values : List Point) → 0 < length values → length (windows rule values) + 1
-        ≤ 2 * (cover rule.lengths (length values) + steps_met rule.step (map (λ (p : Point). p.0) values) - 1) }
+    ensures of_values { (rule : Rule) (values : List Point) → 0 < length values → length (windows rule values) + 2
+        ≤ 2 * cover rule.lengths (length values) + steps_met rule.step (map (λ (p : Point). p.0) values) }
+    ensures of_closed_within { (rule : Rule) (n : ℕ) (ws : List Window) → AreWindows ws → All (IsInStep rule.step) ws → taken ws ≡ n → 0 < n →
+        length (closed rule n ws) + 2 ≤ 2 * cover rule.lengths n + steps_met rule.step (ends_of ws) }
     ensures of_closed { (rule : Rule) (n : ℕ) (ws : List Window) → AreWindows ws → taken ws ≡ n → 0 < n → length (closed rule n ws) + 1
         ≤ 2 * (cover rule.lengths n + steps_met rule.step (ends_of ws) - 1) }
 {}

@@ -63,11 +63,11 @@ pub fn streams_are_of_their_values()
         All (λ s. last_time s ≡ later (time_of_last (values_of history s.name)) (latest_of (landmarks_of history s.name))) (state history) }
 {}
 
-/// In the state of a history each stream has at most 2(K + B - 1) - 1 windows where K target windows cover its values and their times
-/// lie in B steps, so at most 2K - 1 without a step. No window is longer than the target window that holds its newest value.
+/// In the state of a history each stream has at most 2K + B - 2 windows where K target windows cover its values and their times lie in B
+/// steps, so at most 2K - 1 without a step. No window is longer than the target window that holds its newest value.
 pub fn states_keep_to_their_targets()
-    ensures decay { (history : List Happened) → All (λ s. 0 < values_in s → length s.windows + 1 ≤ 2 * (cover (lengths_of s.params) (values_in s)
-        + steps_met (rule_of s.params).step (map (λ (p : Point). p.0) (values_of history s.name)) - 1)) (state history) }
+    ensures decay { (history : List Happened) → All (λ s. 0 < values_in s → length s.windows + 2 ≤ 2 * cover (lengths_of s.params) (values_in s)
+        + steps_met (rule_of s.params).step (map (λ (p : Point). p.0) (values_of history s.name))) (state history) }
     ensures decay_alone { (history : List Happened) → All (λ s. s.params.within ≡ None → 0 < values_in s →
         length s.windows + 1 ≤ 2 * cover (lengths_of s.params) (values_in s)) (state history) }
     ensures within { (history : List Happened) → IsHistory history →

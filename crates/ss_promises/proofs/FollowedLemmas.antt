@@ -15,6 +15,7 @@ use Rattle.ss_replica.specs.Offers.{Outcome}
 use Rattle.ss_replica.specs.declared.judging.Due.TheVariants.{Old as OldFrame, Gap as GapBehind}
 use Rattle.ss_promises.specs.Followed.{frames_after, offer_reply}
 use Rattle.ss_promises.proofs.ConversationLemmas.{talk-leaves}
+use Rattle.ss_promises.proofs.OwnedLemmas.{own-few}
 use Rattle.ss_program.proofs.SessionLemmas.{after_lines-accepted}
 use Rattle.ss_program.proofs.MeantLemmas.{event-or-silent}
 
@@ -179,15 +180,14 @@ tested : (valid : Bool) (f g : FrameState) → (if valid then Some f else None) 
 tested true f g is = refl
 tested false f g is = cc
 
-abbrev IsFew : FrameState → Type 0
-IsFew f = f.number < 2 ^ 64
-
 valid-frame : (history : History) (event : Event) → IsNamed event → drops_none event ≡ true → IsHistory (history ++ added event ∷ []) →
-    IsFew (frame_of history event) → IsValid (frame_of history event)
-valid-frame history event named kept whole few =
+    IsValid (frame_of history event)
+valid-frame history event named kept whole =
     let frame = frame_of history event in
+    let few = own-few (history ++ added event ∷ []) (event_name event) whole in
     IsValidFrame-test frame.number event
-    (tested (is_valid_frame frame.number event) frame frame (checked-last history event whole named.0 named.1 few ∙ some-frame history event kept))
+    (tested (is_valid_frame frame.number event) frame frame
+    (checked-last history event whole named.0 named.1 (omega (arith, few)) ∙ some-frame history event kept))
 
 after-frame : (history : History) (event : Event) → drops_none event ≡ true → IsHistory (history ++ added event ∷ []) →
     after_offer history (frame_of history event) ≡ history ++ added event ∷ []
@@ -197,7 +197,7 @@ after-frame history event kept whole =
 
 -- the frames of some events are offered after a history: they are valid, and the events are added to it
 record AreFollowed (history : History) (es : List Happened) : Type 0 where
-  pub valid : All IsFew (frames_after history es) → All IsValid (frames_after history es)
+  pub valid : All IsValid (frames_after history es)
   pub adds : after_offers history (frames_after history es) ≡ history ++ es
 
 AreFollowed-push : (history : History) (event : Option Event) (more : List Happened) → IfSome event IsNamed →
@@ -207,27 +207,24 @@ AreFollowed-push history None more named kept whole rest = rw append-nil at rest
 AreFollowed-push history (Some event) more named kept whole rest =
     let frames = frames_after (history ++ added event ∷ []) more in
     let frame = frame_of history event in record {
-      valid = λ few. All-cons IsValid frame frames (valid-frame history event named kept whole (All-head IsFew frame frames few))
-          (rest.valid (All-tail IsFew frame frames few));
+      valid = All-cons IsValid frame frames (valid-frame history event named kept whole) rest.valid;
       adds = ap (λ h. after_offers h frames) (after-frame history event kept whole) ∙ rest.adds ∙ append_assoc history (added event ∷ []) more;
     }
 
 are-followed : (talk : Talk) (ls : List (List ℕ)) → talk.form ≡ Frames → IsHistory talk.history → AreFollowed talk.history (accepted talk ls)
-are-followed talk [] is whole = record { valid = λ few. All-nil IsValid; adds = sym (append-nil talk.history) }
+are-followed talk [] is whole = record { valid = All-nil IsValid; adds = sym (append-nil talk.history) }
 are-followed talk (line ∷ ls) is whole =
     let now = talk-leaves talk (line ∷ []) whole in
     AreFollowed-push talk.history (turn_of talk line).event (accepted (after_line talk line) ls) (turn-named talk.form talk line is)
     (turn-frames talk.form talk line is).1 now (are-followed (after_line talk line) ls is now)
 
 pub follows-primary : (history : History) (ls : List (List ℕ)) → IsHistory history →
-    All (λ (f : FrameState). f.number < 2 ^ 64) (frames_after history (accepted (begun Frames history) ls)) →
     (after_lines (begun Follow history) (pieces (text_of (begun Frames history) ls))).history ≡ (after_lines (begun Frames history) ls).history
-follows-primary history ls whole few =
+follows-primary history ls whole =
     let talk = begun Frames history in
     let frames = frames_after history (accepted talk ls) in
     let are = are-followed talk ls refl whole in
-    let valid = are.valid few in
-    ap (λ ps. (after_lines (begun Follow history) ps).history) (ap pieces (text_of-frames talk ls refl) ∙ pieces-frames frames valid)
-    ∙ (followed (begun Follow history) history frames refl refl valid).1
+    ap (λ ps. (after_lines (begun Follow history) ps).history) (ap pieces (text_of-frames talk ls refl) ∙ pieces-frames frames are.valid)
+    ∙ (followed (begun Follow history) history frames refl refl are.valid).1
     ∙ are.adds
     ∙ sym (after_lines-accepted talk ls)

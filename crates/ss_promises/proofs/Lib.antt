@@ -15,3 +15,6 @@ pub mod NeededLemmas
 pub mod OldLemmas
 pub mod AlikeLemmas
 pub mod AlikeText
+pub mod OwnedLemmas
+pub mod LengthLemmas
+mod PrimaryRows

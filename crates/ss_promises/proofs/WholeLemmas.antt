@@ -4,11 +4,12 @@ use Rattle.ss_program.proofs.Common.{HoldsTruth, IsExactOutcome, IsOfKind, refus
 use Rattle.ss_program.proofs.Common.{Outcome, Answered, SeriesHead, Row, History, brings, only_replies}
 use Rattle.ss_command.specs.declared.command.Command.TheVariants.{Series as AskRows}
 use Rattle.ss_model.proofs.WholeLemmas.{whole-rows, whole-unsplit}
-use Rattle.ss_model.specs.WholeSteps.{AreWholeSteps, HasWholeRows, IsWithin}
+use Rattle.ss_model.specs.WholeSteps.{AreWholeSteps, HasWholeRows, IsWithin, reached_by}
 use Rattle.ss_promises.proofs.LawLemmas.{answered-line, answered-series}
 
 pub whole-line : (history : History) (line : List ℕ) (query : Query) (step : ℕ) → IsHistory history → meaning line ≡ Ok (Some (Ask query)) →
-    refuses_query (state history) query ≡ None → IsWithin step (state history) query.name → AreWholeSteps step query.from query.to →
+    refuses_query (state history) query ≡ None → IsWithin step (state history) query.name →
+    AreWholeSteps step (reached_by (state history) query.name) query.from query.to →
     (outcome : Outcome) × (brings history line ≡ only_replies (Answered outcome ∷ [])) × IsOfKind query.kind outcome
     × HoldsTruth query (values_of history query.name) (marked_of history query.name) outcome × IsExactOutcome outcome
 whole-line history line query step whole means none within steps =
@@ -16,7 +17,8 @@ whole-line history line query step whole means none within steps =
     (it.0, it.1, it.2, it.3, it.4 (whole-unsplit (state history) query step (IsState-state history whole) within steps))
 
 pub whole-series : (history : History) (line : List ℕ) (series : Series) (step : ℕ) → IsHistory history → meaning line ≡ Ok (Some (AskRows series)) →
-    refuses_series (state history) series ≡ None → IsWithin step (state history) series.name → HasWholeRows step series →
+    refuses_series (state history) series ≡ None → IsWithin step (state history) series.name →
+    HasWholeRows step (reached_by (state history) series.name) series →
     (answers : ℕ → Outcome)
     × (brings history line ≡ only_replies (SeriesHead series.kind (row_count series) ∷ map (λ row. Row (row_start series row) (answers row)) (rows_of series)))
     × ((row : ℕ) → AnswersRow history series row (answers row) × IsExactOutcome (answers row))

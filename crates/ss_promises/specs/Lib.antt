@@ -3,3 +3,5 @@ pub mod Followed
 pub mod Chained
 pub mod Needed
 pub mod Alike
+pub mod Blamed
+pub mod Short

@@ -1,5 +1,5 @@
 // Laws of frames that are written and followed, each the contract of a function that does nothing.
-ghost use Rattle.std.specs.Prelude.{◌≡◌, ◌<◌, ◌^◌, ℕ, List, All, flat_map, true};
+ghost use Rattle.std.specs.Prelude.{◌≡◌, ℕ, List, All, flat_map, true};
 ghost use Rattle.ss_arguments.specs.declared.mode.Form.TheVariants.{Frames, Follow};
 ghost use Rattle.ss_frames.specs.Frame.{FrameState, IsValidFrame, frame_spelled};
 ghost use Rattle.ss_model.specs.History.{Happened};
@@ -31,11 +31,9 @@ pub fn followed_frames_are_offered()
         (after_lines (begun Follow history) (steps Follow (flat_map frame_spelled frames))).history ≡ after_offers history frames }
 {}
 
-/// A follower that begins with the history of its primary, and is given all that is written there, has the history of the primary then,
-/// as long as the numbers of the frames have 64 bits.
+/// A follower that begins with the history of its primary, and is given all that is written there, has the history of the primary then.
 pub fn followers_go_on_with_their_primary()
     ensures { (history : History) (ls : List (List ℕ)) → IsHistory history →
-        All (λ (f : FrameState). f.number < 2 ^ 64) (frames_after history (accepted (begun Frames history) ls)) →
         (after_lines (begun Follow history) (steps Follow (text_of (begun Frames history) ls))).history ≡
         (after_lines (begun Frames history) ls).history }
 {}

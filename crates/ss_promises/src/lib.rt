@@ -4,10 +4,12 @@
 mod chain_laws;
 mod frame_laws;
 mod laws;
+mod length_laws;
 mod name_laws;
 mod origin_laws;
 mod promises;
 mod session_laws;
+mod source_laws;
 mod step_laws;
 
 pub use chain_laws::chains_of_runs_hold_one_history;
@@ -20,6 +22,7 @@ pub use laws::{
     landmark_values_are_told, newest_values_are_told, presence_holds_the_truth,
     queries_hold_the_truth, reports_are_replies, series_hold_the_truth, sessions_leave_a_history,
 };
+pub use length_laws::files_are_as_short_as_their_streams;
 pub use name_laws::{created_streams_begin_anew, dropped_names_are_unknown};
 pub use origin_laws::old_values_change_answers_to_has_alone;
 pub use promises::{
@@ -30,4 +33,5 @@ pub use session_laws::{
     conversations_hold_the_truth, conversations_leave_a_history,
     cursors_show_the_history_at_their_opening, sessions_say_what_commands_bring,
 };
+pub use source_laws::sources_are_blamed_with_cause;
 pub use step_laws::{conversations_answer_whole_steps_exactly, whole_steps_are_answered_exactly};

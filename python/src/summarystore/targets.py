@@ -121,8 +121,8 @@ class Target(NamedTuple):
 
     def most_windows(self, values: int, steps: int = 1) -> int:
         """No more windows than these stand after so many values, nor after fewer, where their times lie in
-        no more steps of `within` than these. Without it they lie in one."""
-        return max(0, 2 * (self.cover(values) + min(steps, values) - 1) - 1)
+        no more steps of `within` than these: one more for each step. Without it they lie in one."""
+        return max(0, 2 * self.cover(values) + min(steps, values) - 2)
 
     def length_by_form(self, age: int) -> int:
         """No target window at this age is longer: by the closed form."""

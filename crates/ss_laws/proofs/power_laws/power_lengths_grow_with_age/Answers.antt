@@ -1,5 +1,5 @@
-use Rattle.ss_laws.proofs.PowerMeasures.{length-power}
+use Rattle.ss_laws.proofs.PowerMeasures.{length-power, length-power_newest}
 use Rattle.ss_laws.proofs.power_laws.power_lengths_grow_with_age.Goals as goal
 
 pub returns : goal.returns
-returns c = length-power
+returns c = record { curve = length-power; newest = length-power_newest }

@@ -1,4 +1,4 @@
-use Rattle.ss_laws.proofs.SizeLemmas.{records-alone, records-few}
+use Rattle.ss_laws.proofs.SizeLemmas.{records-alone, records-few, steps_met-alone}
 use Rattle.ss_laws.proofs.size_laws.records_are_few.Goals as goal
 
 pub returns-clause-steps : goal.returns-clause-steps
@@ -6,3 +6,6 @@ returns-clause-steps c = records-few
 
 pub returns-clause-alone : goal.returns-clause-alone
 returns-clause-alone c = records-alone
+
+pub returns-clause-one_step : goal.returns-clause-one_step
+returns-clause-one_step c = steps_met-alone
