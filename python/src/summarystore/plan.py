@@ -33,7 +33,7 @@ told: no window is longer than the target's at its age, which is reckoned by the
 above the closed forms of the guide. What no wish is about may be wide, the recent past too. The least
 R is told, so each greater one does as well, and takes more.
 
-With --within windows get no longer, and two more may stand for each further step that has readings. A
+With --within windows get no longer, and one more may stand for each further step that has readings. A
 range of whole steps is then known exactly, which no wish asks for.
 
 Ends with 0 where a target meets all wishes, with 1 where none does, and with 2 where something that was
