@@ -149,20 +149,20 @@ def test_no_smaller_one_is_missed() -> None:
 
 
 def test_steps_take_windows() -> None:
-    """Within a step there are two windows more for each further one, and widths are those of the target."""
+    """Within a step there is one window more for each further one, and widths are those of the target."""
     wish = Wish.of("day after 1y within 5%")
     plain, stepped = Planner(MINUTES, [wish]), Planner(MINUTES, [wish], within=DAY)
     assert (plain.steps, stepped.steps) == (1, 3654)
     for target in (Target.of("exp 2 60 1"), Target.of("power 1 1 4 1")):
         one, other = plain.choice(target), stepped.choice(target)
-        assert other.windows == one.windows + 2 * 3653 and other.halves == one.halves
+        assert other.windows == one.windows + 3653 and other.halves == one.halves
         assert other.bytes == bytes_of(1 + (1 + other.windows))
-    assert all(choice.windows > 2 * 3653 for choice in stepped.plan().choices)
-    few = Planner(MINUTES, [wish], streams=100, within=DAY).plan()
+    assert all(choice.windows > 3653 for choice in stepped.plan().choices)
+    few = Planner(MINUTES, [wish], streams=200, within=DAY).plan()
     assert few.why and few.larger and f"{few.larger.records:,}" in few.why
     hours = Readings(Fraction(3600), 2 * DAY)
     short = Planner(hours, [Wish.of("day after 1h within 50")], within=Fraction(60))
-    assert short.choice(Target.of("exp 2 1 1")).windows == 2 * (6 + 48 - 1) - 1
+    assert short.choice(Target.of("exp 2 1 1")).windows == 2 * 6 + 48 - 2
     for wrong in (Fraction(0), Fraction(-1)):
         with pytest.raises(SourceError):
             Planner(MINUTES, [wish], within=wrong)
