@@ -45,9 +45,13 @@ module _ {D : Type 0} (seen : D → DiskView) (knows : (disk : D) → WhereTold 
       AreLinked seen links first last → AsLong links last used history
   linked-long links first last used history stands uses linked =
       let began = UsesAtMost-more used (max used (most_needed history + 1)) first (omega arith) uses in
-      let all = extends-short seen knows (Some used) links first last history (stands, began) linked in
-      (all.0, all.1, all.2.0, λ most few. length-uses (max used (most + 1)) last
-      (UsesAtMost-more (max used (most_needed all.0 + 1)) (max used (most + 1)) last (omega (arith, few)) all.2.1))
+      let all = extends-short seen knows (Some used) links first last history (stands, began) linked in (
+        all.0,
+        all.1,
+        all.2.0,
+        λ most few. length-uses (max used (most + 1)) last
+            (UsesAtMost-more (max used (most_needed all.0 + 1)) (max used (most + 1)) last (omega (arith, few)) all.2.1),
+      )
 
   pub short-streams : (links : List (Link D)) (first last : List ℕ) (used : ℕ) (history : History) → Stands history first → UsesAtMost used first →
       AreLinked seen links first last → (now : History) × ExtendsAll links history now × Stands now last
