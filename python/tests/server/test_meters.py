@@ -54,15 +54,11 @@ def test_asked_by_http_and_graphite(path: Path) -> None:
     run(work())
 
 
-def test_kills(folder: Path, program: str) -> None:
-    """Each body is sent again until it is answered. Nothing is lost or counted twice then."""
-    readings = [time * 37 % 210 for time in range(8 * EACH)]
-    truth = list(accumulate(value - last if value >= last else value
-                            for last, value in zip([0, *readings], readings)))
-    config = f'[http]\nlisten = "127.0.0.1:{free_port()}"\n[store]\npath = "{folder}/a.store"\n{MAPPING}'
-    running = Running(folder, config=config.replace("overflow = 1000\n", ""))
+def hold_under_kills(running: Running, stream: str, kind: str, readings: list[int], truth: list[int]) -> None:
+    """Sends readings in eight bodies, each again until it is answered, while the service and its program
+    are killed in turn, and asks for the truth after each reading."""
     for part in range(8):
-        rows = [{"stream": "home/energy", "time": START + at, "value": readings[at]}
+        rows = [{"stream": stream, "time": START + at, "value": readings[at]}
                 for at in range(part * EACH, (part + 1) * EACH)]
         if part % 2:    # of the first rows it isn't known whether they are stored
             running.ask("/api/append", {"readings": rows[:7 + part]})
@@ -76,9 +72,19 @@ def test_kills(folder: Path, program: str) -> None:
         while status != 200:
             status, _ = running.ask("/api/append", {"readings": rows})
         for at in range(part * EACH, (part + 1) * EACH):
-            _, told = running.ask(f"/api/query?stream=home/energy&kind=value_at&to={START + at}")
+            _, told = running.ask(f"/api/query?stream={stream}&kind={kind}&to={START + at}")
             assert (told["lo"], told["hi"]) == (truth[at], truth[at])
     running.end()
+
+
+def test_kills(folder: Path, program: str) -> None:
+    """Each body is sent again until it is answered. Nothing is lost or counted twice then."""
+    readings = [time * 37 % 210 for time in range(8 * EACH)]
+    truth = list(accumulate(value - last if value >= last else value
+                            for last, value in zip([0, *readings], readings)))
+    config = f'[http]\nlisten = "127.0.0.1:{free_port()}"\n[store]\npath = "{folder}/a.store"\n{MAPPING}'
+    running = Running(folder, config=config.replace("overflow = 1000\n", ""))
+    hold_under_kills(running, "home/energy", "value_at", readings, truth)
 
 
 GAUGE = """
@@ -161,21 +167,5 @@ def test_kills_of_gauges(folder: Path, program: str) -> None:
     readings = [time * 37 % 210 for time in range(8 * EACH)]
     config = f'[http]\nlisten = "127.0.0.1:{free_port()}"\n[store]\npath = "{folder}/a.store"\n{GAUGE}'
     running = Running(folder, config=config.replace('"h"', '"s"'))
-    for part in range(8):
-        rows = [{"stream": "home/hall/power", "time": START + at, "value": readings[at]}
-                for at in range(part * EACH, (part + 1) * EACH)]
-        if part % 2:    # of the first rows it isn't known whether they are stored
-            running.ask("/api/append", {"readings": rows[:7 + part]})
-            running.process.send_signal(signal.SIGKILL)
-            running.process.wait()
-            running.start_again()
-        elif part:
-            _, health = running.ask("/healthz")
-            os.kill(health["store"]["pid"], signal.SIGKILL)
-        status = 0
-        while status != 200:
-            status, _ = running.ask("/api/append", {"readings": rows})
-        for at in range(part * EACH, (part + 1) * EACH):
-            _, told = running.ask(f"/api/query?stream=home/hall/power&kind=integral&to={START + at}")
-            assert (told["lo"], told["hi"]) == (sum(readings[:at]), sum(readings[:at]))
-    running.end()
+    sums = [sum(readings[:at]) for at in range(len(readings))]
+    hold_under_kills(running, "home/hall/power", "integral", readings, sums)
