@@ -6,7 +6,7 @@ from typing import NamedTuple
 
 TOP = Path(__file__).resolve().parent.parent
 BEGUN = re.compile(r"(?:(?:pub|abbrev|unfoldable|record|data) )+(?!mod |use )([^\s:({]+)")
-FIELD = re.compile(r"  (?:pub )?([^\s:()]+) : (.*)")
+FIELD = re.compile(r"( {2,4})(?:pub )?([^\s:()]+) : (.*)")
 
 
 class Field(NamedTuple):
@@ -34,7 +34,7 @@ class Definition(NamedTuple):
             head.append(line)
             if line.endswith(" where"):
                 break
-        told = " ".join(head).removesuffix(" where")
+        told = " ".join(head).removesuffix(" where").rstrip()
         return told.endswith("Type 0") and ("(" in told or "→" in told) and "data" not in head[0].split()
 
 
@@ -46,12 +46,12 @@ def libraries():
 
 def fields_of(lines):
     """The fields of a record, by its lines with their comments."""
-    fields, comment = [], []
+    fields, comment, indent = [], [], None
     for line in lines:
         begun = FIELD.match(line)
-        if begun:
-            fields.append(Field(begun[1], " ".join(comment), begun[2].strip()))
-            comment = []
+        if begun and begun[1] == (indent or begun[1]):
+            fields.append(Field(begun[2], " ".join(comment), begun[3].strip()))
+            comment, indent = [], begun[1]
         elif line.lstrip().startswith("--"):
             comment.append(line.strip()[2:].strip())
         elif fields and line.strip():
