@@ -48,7 +48,7 @@ class DescribedCodec:
         scale = self.scale = Scale(description.scale, description.rounding)
         self.time, self.begin, self.end = clock.time, clock.begin, clock.end
         self.step, self.now, self.time_back = clock.step, clock.now, clock.back
-        self.value, self.value_back = scale.number, scale.value
+        self.value, self.value_back, self.ratio_back = scale.number, scale.value, scale.ratio
 
     def rows(self, given: Sequence[tuple[object, object]]) -> Sequence[tuple[int, int]]:
         """Times and values together."""

@@ -74,7 +74,7 @@ class Questions:
 
     def mean(self, name: str, t1: object | None = None, t2: object | None = None) -> Interval:
         """The mean of the values from t1 to t2."""
-        return self._do(calls.mean(self._translator.codec(name), t1, t2))
+        return self._do(calls.query(self._translator.codec(name), "mean", t1, t2))
 
     def has(self, name: str, value: object, t1: object | None = None, t2: object | None = None
             ) -> Presence:

@@ -12,10 +12,9 @@ from . import wire
 from .calendars import Calendar
 from .calls import Call, estimate, estimate_of, increases, query, row_of
 from .codec import Codec, streams_of
-from .combining import KINDS
 from .description import unit_of
 from .errors import StepWarning, refusal_of
-from .interval import Interval, mean_of
+from .interval import Interval
 from .kinds import ESTIMATED, KINDS as ASKED, one_of
 from .records import EstimateRow, Row
 from .series import Series
@@ -86,7 +85,7 @@ def calendar_rows(name: str, codec: Codec, calendar: Calendar, first: object, la
 
 def series(name: str, codec: Codec, kind: str, first: object, last_time: object, step: object
            ) -> Call[Series]:
-    """The rows of one kind, or of the mean."""
+    """The rows of one kind."""
     calendar = codec.calendar(step)
     if calendar is not None:
         return calendar_rows(name, codec, calendar, first, last_time,
@@ -94,20 +93,10 @@ def series(name: str, codec: Codec, kind: str, first: object, last_time: object,
     if kind == "increase":
         asked = increase_rows(codec, first, last_time, step)
         return Call(asked.lines, lambda replies: series_of(name, codec, kind, asked.result(replies)))
-    kinds = KINDS if one_of(kind, ASKED) == "mean" else (kind,)
-    here = codec.begin(first), codec.end(last_time), codec.step(step)
-    lines = [wire.series(codec.short, each, *here) for each in kinds]
-
-    def result(replies: Sequence[Reply]) -> Series:
-        columns = [[row_of(codec, each, row) for row in wire.rows_of(reply, "series")]
-                   for each, reply in zip(kinds, replies)]
-        if kind == "mean":
-            rows = [(c[0], mean_of(s[1], c[1], least[1], greatest[1]))
-                    for c, s, least, greatest in zip(*columns)]
-        else:
-            rows = columns[0]
-        return series_of(name, codec, kind, rows)
-    return Call(lines, result)
+    line = wire.series(codec.short, one_of(kind, ASKED), codec.begin(first), codec.end(last_time),
+                       codec.step(step))
+    return Call([line], lambda replies: series_of(name, codec, kind, [
+        row_of(codec, kind, row) for row in wire.rows_of(replies[0], "series")]))
 
 
 def series_of(name: str, codec: Codec, kind: str, rows: Sequence[tuple[int, Interval]]) -> Series:
