@@ -162,7 +162,7 @@ def increases(codec: Codec, times: Sequence[int]) -> Call[Sequence[Interval]]:
 
 def increase(codec: Codec, first: object, last_time: object) -> Call[Interval]:
     """By how much a counter rose from one time until another."""
-    times = codec.begin(first), codec.end(last_time)
+    times = codec.range_of(first, last_time)
     if times[1] < times[0]:
         raise refusal_of("RANGE", f"increase {codec.short} {times[0]} {times[1]}")
     inner = increases(codec, times)
@@ -173,7 +173,7 @@ def query(codec: Codec, kind: str, first: object, last_time: object) -> Call[Int
     """The interval of one kind."""
     if one_of(kind, ASKED) == "increase":
         return increase(codec, first, last_time)
-    line = wire.query(codec.short, kind, codec.begin(first), codec.end(last_time))
+    line = wire.query(codec.short, kind, *codec.range_of(first, last_time))
     return Call([line], lambda replies: _interval(codec, kind, replies[0]))
 
 
@@ -192,7 +192,7 @@ def figures(codec: Codec, kinds: Sequence[str], first: object, last_time: object
             ) -> Call[Sequence[Part]]:
     """The answers of several kinds, all of one moment: their lines go to the program together. With a
     step there is one for each of its rows, and otherwise one."""
-    here = codec.begin(first), codec.end(last_time)
+    here = codec.range_of(first, last_time)
     if step is None:
         lines = [wire.query(codec.short, wire.name_word(kind), *here) for kind in kinds]
     else:
@@ -210,7 +210,7 @@ def figures(codec: Codec, kinds: Sequence[str], first: object, last_time: object
 
 def has(codec: Codec, value: object, first: object, last_time: object) -> Call[Presence]:
     """Whether a value is there."""
-    line = wire.has(codec.short, codec.value(value), codec.begin(first), codec.end(last_time))
+    line = wire.has(codec.short, codec.value(value), *codec.range_of(first, last_time))
     return Call([line], lambda replies: wire.presence_of(replies[0]))
 
 
@@ -222,7 +222,7 @@ def row_of(codec: Codec, kind: str, row: str) -> tuple[int, Interval]:
 
 def estimate(codec: Codec, kind: str, first: object, last_time: object) -> Call[Estimate]:
     """The interval of a count, a sum or a mean, and the likeliest number in it."""
-    line = wire.estimate(codec.short, one_of(kind, ESTIMATED), codec.begin(first), codec.end(last_time))
+    line = wire.estimate(codec.short, one_of(kind, ESTIMATED), *codec.range_of(first, last_time))
     return Call([line], lambda replies: estimate_of(codec, kind, wire.after(replies[0].head, "estimate")))
 
 
@@ -239,7 +239,7 @@ def values(codec: Codec, first: object, last_time: object) -> Call[Sequence[Read
     def result(replies: Sequence[Reply]) -> Sequence[Reading]:
         rows = [wire.numbers(row, 2) for row in wire.rows_of(replies[0], "values")]
         return [Reading(codec.time_back(time), codec.value_back(value)) for time, value in rows]
-    return Call([wire.values(codec.short, codec.begin(first), codec.end(last_time))], result)
+    return Call([wire.values(codec.short, *codec.range_of(first, last_time))], result)
 
 
 def listed(translator: Translator) -> Call[Sequence[Stream]]:
@@ -285,7 +285,7 @@ def cursor_close() -> Call[None]:
 def certify(codec: Codec, kind: str, end: str, first: object, last_time: object,
             landmarks: Sequence[tuple[object, object]]) -> Call[Certificate]:
     """A certificate, with all that its check needs."""
-    begin, finish = codec.begin(first), codec.end(last_time)
+    begin, finish = codec.range_of(first, last_time)
     marks = [(codec.time(start), wire.LAST_TIME if stop is None else codec.time(stop))
              for start, stop in landmarks]
     parts = certificate.parts_within(marks, begin, finish)

@@ -34,6 +34,9 @@ class Codec(Protocol):
     def end(self, given: object) -> int:
         """The last time of a range. None is the last of all."""
 
+    def range_of(self, first: object, last: object) -> tuple[int, int]:
+        """The first and the last time of a range, of which `now` is one moment."""
+
     def step(self, given: object) -> int:
         """A span of time."""
 
@@ -147,6 +150,10 @@ class PlainCodec:
         """A whole number, or 2^62."""
         return LAST_TIME if given is None else self.whole(given)
 
+    def range_of(self, first: object, last: object) -> tuple[int, int]:
+        """Whole numbers, or 0 and 2^62."""
+        return self.begin(first), self.end(last)
+
     def step(self, given: object) -> int:
         """A whole number."""
         return self.whole(given)
@@ -199,7 +206,7 @@ class Through:
 
     def __init__(self, codec: Codec) -> None:
         self.short, self.description, self.told = codec.short, codec.description, codec.told
-        self.time, self.begin, self.end = codec.time, codec.begin, codec.end
+        self.time, self.begin, self.end, self.range_of = codec.time, codec.begin, codec.end, codec.range_of
         self.step, self.now, self.value = codec.step, codec.now, codec.value
         self.time_back, self.value_back = codec.time_back, codec.value_back
         self.interval_back, self.ratio_back = codec.interval_back, codec.ratio_back

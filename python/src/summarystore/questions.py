@@ -157,9 +157,10 @@ class Questions:
             if span is None:
                 raise NoValueError(f"{name} has no values yet")
             t1, t2 = (span[0] if t1 is None else t1), (span[1] if t2 is None else t2)
+        begin, end = codec.range_of(t1, t2)
         if step is None:
-            step = max(1, (codec.end(t2) - codec.begin(t1)) // ROWS + 1)
-        return self.series(name, kind, t1, t2, step), t2
+            step = max(1, (end - begin) // ROWS + 1)
+        return self.series(name, kind, begin, end, step), end
 
     def ends(self, name: str, last: object) -> Time:
         """A last time, as it is shown."""

@@ -28,7 +28,7 @@ MOST_ROWS = 100_000
 def increase_rows(codec: Codec, first: object, last_time: object, step: object
                   ) -> Call[Sequence[tuple[int, Interval]]]:
     """The same in rows: from each step until the next."""
-    begin, end, each = codec.begin(first), codec.end(last_time), codec.step(step)
+    (begin, end), each = codec.range_of(first, last_time), codec.step(step)
     if each < 1 or end < begin:
         raise refusal_of("RANGE", f"series {codec.short} increase {begin} {end} {each}")
     if (end - begin) // each >= MOST_ROWS:
@@ -60,7 +60,7 @@ def calendar_rows(name: str, codec: Codec, calendar: Calendar, first: object, la
                   made: Callable[[Sequence[int]], Call[T]]) -> Call[T]:
     """A call for the rows of a zone. Where a stream's step doesn't fit them that is told, once."""
     counting = codec.counting()
-    begin, end = (counting.moment(count) for count in (codec.begin(first), codec.end(last_time)))
+    begin, end = map(counting.moment, codec.range_of(first, last_time))
     if end < begin:
         raise refusal_of("RANGE", f"series {codec.short} {first} {last_time}")
     found = calendar.edges(begin, end, MOST_ROWS)
@@ -93,8 +93,7 @@ def series(name: str, codec: Codec, kind: str, first: object, last_time: object,
     if kind == "increase":
         asked = increase_rows(codec, first, last_time, step)
         return Call(asked.lines, lambda replies: series_of(name, codec, kind, asked.result(replies)))
-    line = wire.series(codec.short, one_of(kind, ASKED), codec.begin(first), codec.end(last_time),
-                       codec.step(step))
+    line = wire.series(codec.short, one_of(kind, ASKED), *codec.range_of(first, last_time), codec.step(step))
     return Call([line], lambda replies: series_of(name, codec, kind, [
         row_of(codec, kind, row) for row in wire.rows_of(replies[0], "series")]))
 
@@ -112,7 +111,7 @@ def estimates(name: str, codec: Codec, kind: str, first: object, last_time: obje
     if calendar is not None:
         return calendar_rows(name, codec, calendar, first, last_time,
                              lambda edges: _estimate_rows(codec, kind, edges))
-    here = codec.begin(first), codec.end(last_time), codec.step(step)
+    here = *codec.range_of(first, last_time), codec.step(step)
 
     def result(replies: Sequence[Reply]) -> Sequence[EstimateRow]:
         rows = [row.partition(" ") for row in wire.rows_of(replies[0], "estimates")]

@@ -98,9 +98,7 @@ def kind_of(words: Mapping[str, str]) -> str:
 
 def range_of(words: Mapping[str, str]) -> tuple[int | None, int | None]:
     """The nanoseconds from `from` to `to`, each None where it isn't given."""
-    zone = asked.zone(words)
-    first = asked.nanoseconds(words["from"], "from", zone) if "from" in words else None
-    last = asked.nanoseconds(words["to"], "to", zone) if "to" in words else None
+    first, last = asked.range_of(words)
     if first is not None and last is not None and last < first:
         raise asked.bad("the range ends before it begins", "bad_range")
     return first, last
