@@ -152,11 +152,7 @@ class Channel(Base):
         await future
 
     async def _do(self, call: Call[T], session: int = 0, only: Connection | None = None) -> T:
-        replies = await self._replies(call.lines, session, only)
-        again = older.instead(call.lines, replies)
-        if again:
-            replies = older.mended(call.lines, replies, await self._replies(again, session, only))
-        return call.answer(replies)
+        return await older.answer_later(call, lambda lines: self._replies(lines, session, only))
 
     async def _replies(self, lines: Sequence[str], session: int, only: Connection | None) -> Sequence[Reply]:
         request = Commands(session, lines)

@@ -82,11 +82,7 @@ class RemoteStore(Described, Questions):
         return ask.result(told)
 
     async def _do(self, call: Call[T]) -> T:
-        replies = await self._replies(call.lines)
-        again = older.instead(call.lines, replies)
-        if again:
-            replies = older.mended(call.lines, replies, await self._replies(again))
-        return call.answer(replies)
+        return await older.answer_later(call, self._replies)
 
     async def _replies(self, lines: Sequence[str]) -> Sequence[Reply]:
         return [reply for ask in remote.questions(lines) for reply in await self._ask(ask)]

@@ -174,11 +174,7 @@ class Channel(Base):
             return request
 
     def _do(self, call: Call[T]) -> T:
-        replies = self._replies(call.lines)
-        again = older.instead(call.lines, replies)
-        if again:
-            replies = older.mended(call.lines, replies, self._replies(again))
-        return call.answer(replies)
+        return older.answer(call, self._replies)
 
     def _replies(self, lines: Sequence[str]) -> Sequence[Reply]:
         request = self.send(lines)

@@ -87,11 +87,7 @@ class RemoteStore(Described, Questions):
         return ask.result(told)
 
     def _do(self, call: Call[T]) -> T:
-        replies = self._replies(call.lines)
-        again = older.instead(call.lines, replies)
-        if again:
-            replies = older.mended(call.lines, replies, self._replies(again))
-        return call.answer(replies)
+        return older.answer(call, self._replies)
 
     def _replies(self, lines: Sequence[str]) -> Sequence[Reply]:
         return [reply for ask in remote.questions(lines) for reply in self._ask(ask)]

@@ -4,14 +4,17 @@ the least and the greatest values in their place. What comes of these is wider, 
 from __future__ import annotations
 
 import re
-from collections.abc import Iterator, Sequence
+from collections.abc import Awaitable, Callable, Iterator, Sequence
 from fractions import Fraction
 from itertools import islice
+from typing import TypeVar
 
 from . import wire
+from .calls import Call
 from .combining import FIGURES
 from .wire import Reply
 
+T = TypeVar("T")
 REFUSED = "refused SYNTAX"
 MEAN = re.compile(r"(query|series) (\S+) mean (.+)")
 
@@ -27,6 +30,20 @@ def mended(lines: Sequence[str], replies: Sequence[Reply], more: Sequence[Reply]
     rest = iter(more)
     return [reply if found is None else _mean(found[1], list(islice(rest, len(FIGURES))))
             for found, reply in zip(_refused(lines, replies), replies)]
+
+
+def answer(call: Call[T], ask: Callable[[Sequence[str]], Sequence[Reply]]) -> T:
+    """What a call is answered, by whoever asks for its lines."""
+    replies = ask(call.lines)
+    again = instead(call.lines, replies)
+    return call.answer(mended(call.lines, replies, ask(again)) if again else replies)
+
+
+async def answer_later(call: Call[T], ask: Callable[[Sequence[str]], Awaitable[Sequence[Reply]]]) -> T:
+    """The same, for asyncio."""
+    replies = await ask(call.lines)
+    again = instead(call.lines, replies)
+    return call.answer(mended(call.lines, replies, await ask(again)) if again else replies)
 
 
 def _refused(lines: Sequence[str], replies: Sequence[Reply]) -> Iterator[re.Match[str] | None]:

@@ -128,7 +128,7 @@ def rows_of(words: Mapping[str, str], most: int) -> Rows:
 
 
 def parts_of(part: Part) -> dict[str, object]:
-    """What a mean is made of, as it is answered."""
+    """What a mean is made of, as it is answered: the figures of all, and between what their means lie."""
     return {"parts": {kind: ends_of(interval) for kind, interval in part.items()}}
 
 
