@@ -48,7 +48,7 @@ def test_by_http(made: Path) -> None:
         async with over_http(MAPPING, made) as client:
             assert (await client.post("/api/append", {"readings": READINGS}))["stored"] == 7
             for first, last, lo, hi in ANSWERS:
-                wanted = Decimal(lo), Decimal(hi)
+                wanted = Decimal(str(lo)), Decimal(str(hi))
                 assert await asked(client, first, last, stream="home/a") == wanted
                 assert await asked(client, first, last, streams="home/*") == wanted     # that of the only one
             maybe = await client.get("/api/query", stream="home/a", kind="mean", **span(15, 34))
