@@ -69,13 +69,12 @@ def shortened(value: Fraction, places: int, rounding: str) -> Number:
     """A fraction as a decimal with so many digits behind the point, and as many more as it needs. Where it
     needs more than 12 it is rounded: down, up, or half to even."""
     digits = places + MORE
-    scaled = value * 10**digits
-    if rounding == ROUND_FLOOR:
-        found = scaled.numerator // scaled.denominator
-    elif rounding == ROUND_CEILING:
-        found = -(-scaled.numerator // scaled.denominator)
-    else:
-        found = round(scaled)
+    found, rest = divmod(value.numerator * 10**digits, value.denominator)
+    if rounding == ROUND_CEILING:
+        found += rest > 0
+    elif rounding != ROUND_FLOOR:
+        twice = 2 * rest - value.denominator
+        found += twice > 0 or twice == 0 and found % 2
     while digits > places and found % 10 == 0:
         found, digits = found // 10, digits - 1
     return Decimal(found).scaleb(-digits, EXACT) if digits else found
