@@ -1,0 +1,3 @@
+pub mod DigitLemmas
+mod Rows
+pub mod SumLemmas

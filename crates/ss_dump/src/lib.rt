@@ -1,0 +1,10 @@
+//! The text of a dump: a row for each record of a store, between a head and an end row.
+#![tactic(auto)]
+
+mod row;
+mod summing;
+mod text;
+
+pub use row::Row;
+pub use summing::further;
+pub use text::{end_text, head_text, row_text};
