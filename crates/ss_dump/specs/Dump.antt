@@ -1,10 +1,17 @@
 -- The text of a dump.
-use Rattle.std.specs.Prelude.{ℕ, List, [], ◌∷◌, ◌++◌, codes, flat_map, length}
+use Rattle.std.specs.Prelude.{◌≡◌, ℕ, ◌^◌, ◌<◌, List, [], ◌∷◌, ◌++◌, codes, flat_map, length}
 use Rattle.std.specs.Fmt.{decimal}
-use Rattle.hex.specs.Hex.{encode_lower}
+use Rattle.hex.specs.Hex.{IsBytes, encode_lower}
+use Rattle.ss_base.specs.declared.limits.TheConstants.{SLOT_SIZE}
 use Rattle.ss_checksum.specs.Checksum.{checksum}
 use Rattle.ss_fields.specs.Fields.{number_bytes}
 use Rattle.ss_dump.specs.declared.row.Row.{Row}
+
+-- a slot of 32 bits, and as many bytes as a slot has
+pub record IsRow (row : Row) : Type 0 where
+  pub slot : row.slot < 2 ^ 32
+  pub size : length row.bytes ≡ SLOT_SIZE
+  pub bytes : IsBytes row.bytes
 
 -- the front of a row: its slot in decimal, and the bytes of the record, two hexadecimal digits each, in lower case
 abbrev pub row_front : Row → List ℕ
