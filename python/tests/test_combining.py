@@ -2,13 +2,16 @@
 
 from __future__ import annotations
 
+import math
 from collections.abc import Mapping, Sequence
+from fractions import Fraction
 
 from hypothesis import given
 from hypothesis import strategies as st
 
 from summarystore import Interval
-from summarystore.combining import KINDS, Part, answer, empty, greatest_of, joined, least_of
+from summarystore.combining import (KINDS, Part, answer, empty, greatest_of, joined, least_of,
+                                    mean_of_figures)
 
 Values = Sequence[int]
 SLACK = st.integers(0, 5)
@@ -16,19 +19,20 @@ SLACK = st.integers(0, 5)
 
 def part_of(values: Values, sure: bool, slack: Mapping[str, tuple[int, int]]) -> Part:
     """Intervals that hold the truths of some values, wider than they have to be."""
-    def around(kind: str, truth: int) -> Interval:
+    def around(kind: str, truth: int | Fraction) -> Interval:
         below, above = slack[kind]
-        return Interval(truth - below, truth + above, maybe_none=kind in ("min", "max") and not sure)
+        return Interval(math.floor(truth) - below, math.ceil(truth) + above,
+                        maybe_none=kind in ("min", "max", "mean") and not sure)
     if not values:
         part = dict(empty(KINDS))
         if not sure:
             part["count"], part["sum"] = Interval(0, slack["count"][1]), around("sum", 0)
-            part["min"], part["max"] = (around(kind, 0) for kind in ("min", "max"))
+            part["min"], part["max"], part["mean"] = (around(kind, 0) for kind in ("min", "max", "mean"))
         return part
     below = min(slack["count"][0], len(values) - 1) if sure else len(values)
     return {"count": Interval(len(values) - below, len(values) + slack["count"][1]),
             "sum": around("sum", sum(values)), "min": around("min", min(values)),
-            "max": around("max", max(values))}
+            "max": around("max", max(values)), "mean": around("mean", Fraction(sum(values), len(values)))}
 
 
 PARTS = st.lists(st.tuples(st.lists(st.integers(-20, 20), max_size=4), st.booleans(),
@@ -40,6 +44,8 @@ def holds(kind: str, found: Interval, values: Values) -> bool:
     """Whether an answer holds the truth of some values."""
     if not values and kind not in ("count", "sum"):
         return found.none or found.maybe_none
+    if kind == "mean":
+        return Fraction(found.lo) <= Fraction(sum(values), len(values)) <= Fraction(found.hi)
     truth = {"count": len(values), "sum": sum(values)}.get(kind)
     if truth is not None:
         return truth in found
@@ -70,8 +76,8 @@ def test_the_truth_is_held(given_parts: Sequence[tuple[Values, bool, Mapping[str
     for kind in KINDS:
         assert holds(kind, answer(kind, whole), values)
     if values:
-        mean = answer("mean", whole)
-        assert mean.lo * len(values) <= sum(values) <= mean.hi * len(values)
+        figures = mean_of_figures(whole)
+        assert answer("mean", whole).width <= figures.width and holds("mean", figures, values)
 
 
 @given(PARTS, st.integers(0, 6))
@@ -93,3 +99,12 @@ def test_the_least_and_the_greatest() -> None:
     assert greatest_of([maybe, Interval(5, 20, maybe_none=True)]) == Interval(1, 20, maybe_none=True)
     assert least_of([Interval(2, 8), Interval(3, 5)]) == Interval(2, 5)
     assert greatest_of([Interval(2, 8), Interval(3, 5)]) == Interval(3, 8)
+
+
+def test_the_mean_of_one_of_them() -> None:
+    """Where no other may have a value it is as the store tells it, and else it lies between theirs."""
+    one = {"count": Interval(1, 2), "sum": Interval(-3, 9), "min": Interval(-3, 9), "max": Interval(-3, 9),
+           "mean": Interval("0.5", 4)}
+    assert answer("mean", joined(KINDS, [empty(KINDS), one])) == Interval("0.5", 4)
+    assert answer("mean", joined(KINDS, [one, {**one, "mean": Interval(2, 5)}])) == Interval("0.5", 5)
+    assert answer("mean", joined(KINDS, [])).none and mean_of_figures(one) == Interval(-3, 9)

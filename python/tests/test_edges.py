@@ -22,7 +22,7 @@ import summarystore
 from summarystore import (CertificateError, Interval, LineTooLongError, NamesFileError, NotANumberError,
                           NumberError, ProcessEndedError, RowsRefusedError, StoreClosedError, TimeError)
 from summarystore import aio
-from summarystore.certificate import Bounds, Certificate, Cut, Side
+from summarystore.certificate import Bounds, Certificate, Cut, Known, Side
 from summarystore.clock import Clock, span_of, zone_of
 from summarystore.decimals import exact
 from summarystore.description import EPOCH
@@ -280,7 +280,8 @@ def test_a_certificate_whose_landmarks_are_told_backwards() -> None:
     cuts = (Cut(1, 10, Side(9, ((10, 9),)), Side(1, ((10, 1),))),)
 
     def told(*landmarks: tuple[int, int]) -> Certificate:
-        return Certificate("count", "hi", 10, 50, 9, 0, cuts, 9, (window,), landmarks, 0, len(landmarks))
+        return Certificate("count", "hi", 10, 50, 9, Known(), cuts, 9, (window,), landmarks, Known(),
+                           len(landmarks))
     assert told((60, 70)).check() == 9
     for wrong in ([(99, 11)], [(80, 90), (60, 70)]):
         with pytest.raises(CertificateError):

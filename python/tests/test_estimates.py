@@ -44,7 +44,7 @@ def test_rows(seven: Store) -> None:
 
 
 @pytest.mark.parametrize("ask, error", [
-    (("a", "max", 0, 9), errors.CommandError), (("a", "mean", 0, 9), errors.CommandError),
+    (("a", "max", 0, 9), errors.CommandError), (("a", "min", 0, 9), errors.CommandError),
     (("x", "sum", 0, 9), errors.UnknownStreamError), (("a", "sum", 9, 4), errors.RangeError)])
 def test_refused(seven: Store, ask: tuple[str, Estimated, int, int], error: type[errors.RefusedError]
                  ) -> None:

@@ -2,7 +2,7 @@
 
 from __future__ import annotations
 
-from decimal import Decimal
+from decimal import ROUND_CEILING, ROUND_FLOOR, ROUND_HALF_EVEN, Decimal
 from fractions import Fraction
 
 import numpy
@@ -11,6 +11,7 @@ from hypothesis import given
 from hypothesis import strategies as st
 
 from summarystore import Interval, NotANumberError, ScaleError
+from summarystore.decimals import MORE, places_of, shortened
 from summarystore.scale import Scale, decimal_places
 
 LEAST, GREATEST = -2**63, 2**63 - 1
@@ -76,3 +77,15 @@ def test_what_does_not_fit_is_refused(value: Decimal) -> None:
 
 def test_places() -> None:
     assert [decimal_places(text) for text in ("1", "1.50", "1e-3", "100", "2.5e1")] == [0, 1, 3, 0, 0]
+
+
+@given(st.fractions(), st.integers(0, 9))
+def test_fractions_that_are_shortened(value: Fraction, places: int) -> None:
+    """Down, up and half to even, as Python rounds fractions."""
+    step = Fraction(1, 10 ** (places + MORE))
+    down, up, near = (shortened(value, places, rounding)
+                      for rounding in (ROUND_FLOOR, ROUND_CEILING, ROUND_HALF_EVEN))
+    assert Fraction(down) == value // step * step and Fraction(up) == -(-value // step) * step
+    assert Fraction(near) == round(value / step) * step
+    for found in (down, up, near):
+        assert places_of(found) <= places + MORE and not isinstance(found, bool)

@@ -109,7 +109,7 @@ def test_landmarks(seven: Store) -> None:
 
 
 def test_certificates(seven: Store) -> None:
-    for kind in ESTIMATED:
+    for kind in ESTIMATED[:2]:      # those of means are fractions
         for end in ENDS:
             for first in (0, 15, 25, 45):
                 for last in (45, 55, 100):
@@ -166,7 +166,7 @@ def test_refusals_of_calls(seven: Store) -> None:
         seven.query("a", "sum", 5, 4)
     with pytest.raises(errors.KindError, match="one of count, sum, min, max, mean, .* and not 'median'"):
         seven.query("a", cast(Kind, "median"), 1, 2)
-    with pytest.raises(errors.KindError, match="one of count, sum, and not"):
+    with pytest.raises(errors.KindError, match="one of count, sum, mean, and not"):
         seven.certify("a", cast(Estimated, "min"), "lo", 1, 2)
     assert seven.query("a", "count") == 7
 

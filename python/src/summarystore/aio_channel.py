@@ -6,8 +6,10 @@ import asyncio
 import os
 import warnings
 from collections import defaultdict
+from collections.abc import Sequence
 from typing import TypeVar
 
+from . import older
 from .base import Base
 from .calls import Call
 from .codec import Translator
@@ -16,7 +18,7 @@ from .errors import ReopenedWarning, StoreClosedError
 from .keeping import Keeping
 from .pipeline import Commands, Request
 from .program import StorePath
-from .wire import NOTHING
+from .wire import NOTHING, Reply
 
 T = TypeVar("T")
 
@@ -150,12 +152,15 @@ class Channel(Base):
         await future
 
     async def _do(self, call: Call[T], session: int = 0, only: Connection | None = None) -> T:
-        request = Commands(session, call.lines)
+        return await older.answer_later(call, lambda lines: self._replies(lines, session, only))
+
+    async def _replies(self, lines: Sequence[str], session: int, only: Connection | None) -> Sequence[Reply]:
+        request = Commands(session, lines)
         await self._submit(request, only)
         await self._wait(request)
         if request.error is not None:
             raise request.error
-        return call.answer(request.replies)
+        return request.replies
 
     async def close(self) -> None:
         """Lets the program end in order, after all that is under way. Twice does no harm."""

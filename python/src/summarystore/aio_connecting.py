@@ -11,7 +11,7 @@ from typing import Self, TypeVar, cast
 import aiohttp
 from yarl import URL
 
-from . import calls, remote
+from . import calls, older, remote
 from .calls import Call
 from .errors import LateError, ServiceError, StoreClosedError
 from .frames import columns_of, frame_of, names_left
@@ -22,6 +22,7 @@ from .aio_questions import Questions
 from .records import Stored, Time, Window
 from .remote import Ask, Body, Described, Posts, RemoteNames
 from .sending import OnRefused
+from .wire import Reply
 
 T = TypeVar("T")
 
@@ -81,7 +82,10 @@ class RemoteStore(Described, Questions):
         return ask.result(told)
 
     async def _do(self, call: Call[T]) -> T:
-        return call.answer([reply for ask in remote.questions(call.lines) for reply in await self._ask(ask)])
+        return await older.answer_later(call, self._replies)
+
+    async def _replies(self, lines: Sequence[str]) -> Sequence[Reply]:
+        return [reply for ask in remote.questions(lines) for reply in await self._ask(ask)]
 
     # ---- streams ------------------------------------------------------------------------
 

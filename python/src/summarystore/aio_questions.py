@@ -69,8 +69,8 @@ class Questions:
         return await self._do(calls.value_at(self._translator.codec(name), time))
 
     async def mean(self, name: str, t1: object | None = None, t2: object | None = None) -> Interval:
-        """The mean of the values from t1 to t2."""
-        return await self._do(calls.mean(self._translator.codec(name), t1, t2))
+        """The mean of the values from t1 to t2, as `Store.mean`."""
+        return await self._do(calls.query(self._translator.codec(name), "mean", t1, t2))
 
     async def has(self, name: str, value: object, t1: object | None = None, t2: object | None = None
                   ) -> Presence:
@@ -96,7 +96,7 @@ class Questions:
 
     async def estimate(self, name: str, kind: Estimated, t1: object | None = None, t2: object | None = None
                        ) -> Estimate:
-        """`count` or `sum` of the values from t1 to t2, and the likeliest number in its interval."""
+        """`count`, `sum` or `mean` of the values from t1 to t2, and the likeliest number in its interval."""
         return await self._do(calls.estimate(self._translator.codec(name), kind, t1, t2))
 
     async def estimates(self, name: str, kind: Estimated, t1: object | None, t2: object | None, step: object
@@ -122,7 +122,7 @@ class Questions:
     async def certify(self, name: str, kind: Estimated, end: End, t1: object | None = None,
                       t2: object | None = None,
                       landmarks: Sequence[tuple[object, object]] = ()) -> Certificate:
-        """Why the end `lo` or `hi` of a count or a sum can't be narrower, as `Store.certify`."""
+        """Why the end `lo` or `hi` of a count, a sum or a mean can't be narrower, as `Store.certify`."""
         return await self._do(calls.certify(self._translator.codec(name), kind, end, t1, t2, landmarks))
 
     async def list(self) -> Sequence[Stream]:

@@ -6,12 +6,12 @@ from collections.abc import Callable, Sequence
 from dataclasses import dataclass
 from typing import Generic, TypeVar
 
-from . import certificate, wire
+from . import certificate, means, wire
 from .certificate import Certificate
 from .codec import Codec, Translator, streams_of
-from .combining import KINDS, Part
-from .errors import CertificateError, refusal_of
-from .interval import Interval, Presence, mean_of
+from .combining import Part
+from .errors import refusal_of
+from .interval import Interval, Presence
 from .kinds import ENDS, ESTIMATED, KINDS as ASKED, one_of
 from .meters import Standing, increase_of, must_be_counter
 from .records import Estimate, Last, Reading, Stored, Stream, Time, Window
@@ -162,7 +162,7 @@ def increases(codec: Codec, times: Sequence[int]) -> Call[Sequence[Interval]]:
 
 def increase(codec: Codec, first: object, last_time: object) -> Call[Interval]:
     """By how much a counter rose from one time until another."""
-    times = codec.begin(first), codec.end(last_time)
+    times = codec.range_of(first, last_time)
     if times[1] < times[0]:
         raise refusal_of("RANGE", f"increase {codec.short} {times[0]} {times[1]}")
     inner = increases(codec, times)
@@ -170,36 +170,29 @@ def increase(codec: Codec, first: object, last_time: object) -> Call[Interval]:
 
 
 def query(codec: Codec, kind: str, first: object, last_time: object) -> Call[Interval]:
-    """The interval of one kind, or of the mean."""
-    if one_of(kind, ASKED) == "mean":
-        return mean(codec, first, last_time)
-    if kind == "increase":
+    """The interval of one kind."""
+    if one_of(kind, ASKED) == "increase":
         return increase(codec, first, last_time)
-    line = wire.query(codec.short, kind, codec.begin(first), codec.end(last_time))
+    line = wire.query(codec.short, kind, *codec.range_of(first, last_time))
     return Call([line], lambda replies: _interval(codec, kind, replies[0]))
 
 
 def _interval(codec: Codec, kind: str, reply: Reply) -> Interval:
-    return codec.interval_back(kind, wire.interval_of(wire.after(reply.head, kind)))
+    return _shown(codec, kind, wire.after(reply.head, kind))
 
 
-def mean(codec: Codec, first: object, last_time: object) -> Call[Interval]:
-    """The mean, from the count, the sum, the least and the greatest."""
-    here = codec.begin(first), codec.end(last_time)
-    lines = [wire.query(codec.short, kind, *here) for kind in KINDS]
-
-    def result(replies: Sequence[Reply]) -> Interval:
-        count, total, least, greatest = (_interval(codec, kind, reply)
-                                         for kind, reply in zip(KINDS, replies))
-        return mean_of(total, count, least, greatest)
-    return Call(lines, result)
+def _shown(codec: Codec, kind: str, text: str) -> Interval:
+    """What the program says, as it is shown."""
+    if kind == "mean":
+        return means.shown(codec, means.mean_of(text))
+    return codec.interval_back(kind, wire.interval_of(text))
 
 
 def figures(codec: Codec, kinds: Sequence[str], first: object, last_time: object, step: object | None
             ) -> Call[Sequence[Part]]:
     """The answers of several kinds, all of one moment: their lines go to the program together. With a
     step there is one for each of its rows, and otherwise one."""
-    here = codec.begin(first), codec.end(last_time)
+    here = codec.range_of(first, last_time)
     if step is None:
         lines = [wire.query(codec.short, wire.name_word(kind), *here) for kind in kinds]
     else:
@@ -217,24 +210,26 @@ def figures(codec: Codec, kinds: Sequence[str], first: object, last_time: object
 
 def has(codec: Codec, value: object, first: object, last_time: object) -> Call[Presence]:
     """Whether a value is there."""
-    line = wire.has(codec.short, codec.value(value), codec.begin(first), codec.end(last_time))
+    line = wire.has(codec.short, codec.value(value), *codec.range_of(first, last_time))
     return Call([line], lambda replies: wire.presence_of(replies[0]))
 
 
 def row_of(codec: Codec, kind: str, row: str) -> tuple[int, Interval]:
     """A row of the program's `series`: where it begins, and its answer."""
     start, _, text = row.partition(" ")
-    return wire.numbers(start, 1)[0], codec.interval_back(kind, wire.interval_of(text))
+    return wire.numbers(start, 1)[0], _shown(codec, kind, text)
 
 
 def estimate(codec: Codec, kind: str, first: object, last_time: object) -> Call[Estimate]:
-    """The interval of a count or a sum, and the likeliest number in it."""
-    line = wire.estimate(codec.short, one_of(kind, ESTIMATED), codec.begin(first), codec.end(last_time))
+    """The interval of a count, a sum or a mean, and the likeliest number in it."""
+    line = wire.estimate(codec.short, one_of(kind, ESTIMATED), *codec.range_of(first, last_time))
     return Call([line], lambda replies: estimate_of(codec, kind, wire.after(replies[0].head, "estimate")))
 
 
 def estimate_of(codec: Codec, kind: str, text: str) -> Estimate:
     """What the program says of an estimate."""
+    if kind == "mean":
+        return means.estimate_shown(codec, text)
     interval, guess = wire.estimate_of(text)
     return Estimate(codec.interval_back(kind, interval), codec.interval_back(kind, Interval(guess)).lo)
 
@@ -244,7 +239,7 @@ def values(codec: Codec, first: object, last_time: object) -> Call[Sequence[Read
     def result(replies: Sequence[Reply]) -> Sequence[Reading]:
         rows = [wire.numbers(row, 2) for row in wire.rows_of(replies[0], "values")]
         return [Reading(codec.time_back(time), codec.value_back(value)) for time, value in rows]
-    return Call([wire.values(codec.short, codec.begin(first), codec.end(last_time))], result)
+    return Call([wire.values(codec.short, *codec.range_of(first, last_time))], result)
 
 
 def listed(translator: Translator) -> Call[Sequence[Stream]]:
@@ -290,23 +285,21 @@ def cursor_close() -> Call[None]:
 def certify(codec: Codec, kind: str, end: str, first: object, last_time: object,
             landmarks: Sequence[tuple[object, object]]) -> Call[Certificate]:
     """A certificate, with all that its check needs."""
-    begin, finish = codec.begin(first), codec.end(last_time)
+    begin, finish = codec.range_of(first, last_time)
     marks = [(codec.time(start), wire.LAST_TIME if stop is None else codec.time(stop))
              for start, stop in landmarks]
     parts = certificate.parts_within(marks, begin, finish)
+    asked = ("sum", "count") if kind == "mean" else (kind,)
     lines = [wire.certify(codec.short, one_of(kind, ESTIMATED), one_of(end, ENDS, "end"), begin, finish),
              wire.LIST, wire.windows(codec.short), wire.query(codec.short, kind, begin, finish),
-             *(wire.query(codec.short, kind, *part) for part in parts)]
+             *(wire.query(codec.short, each, *part) for part in parts for each in asked)]
 
     def result(replies: Sequence[Reply]) -> Certificate:
-        answer, base, cuts = certificate.cuts_of(replies[0])
+        answer, base, cuts = certificate.cuts_of(kind, replies[0])
         stream = next(row for row in streams_of(wire.rows_of(replies[1], "list"))
                       if row.name == codec.short)
         windows = tuple(map(certificate.window_of, wire.rows_of(replies[2], "windows")))
-        answered = wire.numbers(wire.after(replies[3].head, kind), 2)[end == "hi"]
-        known = [wire.numbers(wire.after(reply.head, kind), 2) for reply in replies[4:]]
-        if any(lo != hi for lo, hi in known):
-            raise CertificateError("the values of a landmark aren't known exactly")
-        return Certificate(kind, end, begin, finish, answer, base, cuts, answered, windows,
-                           tuple(marks), sum(lo for lo, _ in known), stream.landmarks)
+        return Certificate(kind, end, begin, finish, answer, base, cuts,
+                           certificate.answered_of(kind, end, replies[3]), windows, tuple(marks),
+                           certificate.marked_of(asked, replies[4:]), stream.landmarks)
     return Call(lines, result)

@@ -8,11 +8,38 @@ from __future__ import annotations
 
 from collections.abc import Sequence
 from dataclasses import dataclass
+from fractions import Fraction
+from itertools import cycle
+from typing import Union
 
 from .errors import CertificateError, ProtocolError
+from .means import mean_of, ratio_of
 from .wire import INTEGER, LAST_TIME, Reply, after, numbers, rows_of
 
 Span = tuple[int, int]
+Answer = Union[int, Fraction, None]
+"""A count, a sum, or a mean. None where there is no value, and so no mean."""
+
+
+@dataclass(frozen=True)
+class Known:
+    """Some values by their sum and their number. Where one of both is asked for the other may be left out."""
+
+    total: int = 0
+    count: int = 0
+
+    def __add__(self, other: Known) -> Known:
+        return Known(self.total + other.total, self.count + other.count)
+
+    def of_kind(self, kind: str) -> Known:
+        """As far as an answer of this kind hangs on it."""
+        return Known(0 if kind == "count" else self.total, 0 if kind == "sum" else self.count)
+
+    def answer(self, kind: str) -> Answer:
+        """The answer of these values."""
+        if kind == "mean":
+            return Fraction(self.total, self.count) if self.count else None
+        return self.count if kind == "count" else self.total
 
 
 @dataclass(frozen=True)
@@ -37,9 +64,9 @@ class Side:
     runs: tuple[tuple[int, int], ...]
 
     @property
-    def total(self) -> int:
-        """Their sum."""
-        return sum(value * times for value, times in self.runs)
+    def known(self) -> Known:
+        """Their sum and their number."""
+        return Known(sum(value * times for value, times in self.runs), self.count)
 
 
 @dataclass(frozen=True)
@@ -67,10 +94,40 @@ def _side(row: str, word: str) -> tuple[int, int, Side]:
     return first, last, Side(count, tuple((int(value), int(times)) for value, times in runs))
 
 
-def cuts_of(reply: Reply) -> tuple[int, int, tuple[Cut, ...]]:
-    """`certify ANSWER BASE COUNT` and its rows: the answer, the base and the cut windows."""
+def marked_of(kinds: Sequence[str], replies: Sequence[Reply]) -> Known:
+    """The values of landmarks, by the answers of these kinds to each part that one covers."""
+    found = {"sum": 0, "count": 0}
+    for kind, reply in zip(cycle(kinds), replies):
+        lo, hi = numbers(after(reply.head, kind), 2)
+        if lo != hi:
+            raise CertificateError("the values of a landmark aren't known exactly")
+        found[kind] += lo
+    return Known(found["sum"], found["count"])
+
+
+def answered_of(kind: str, end: str, reply: Reply) -> Answer:
+    """What the query says of an end."""
+    text = after(reply.head, kind)
+    if kind != "mean":
+        return numbers(text, 2)[end == "hi"]
+    mean = mean_of(text)
+    return None if mean is None else mean.lo if end == "lo" else mean.hi
+
+
+def _head(kind: str, text: str) -> tuple[Answer, Known]:
+    """`ANSWER BASE COUNT`, and of a mean `ANSWER SUM COUNT COUNT`: the answer, and what is known."""
+    if kind != "mean":
+        answer, base, _ = numbers(text, 3)
+        return answer, Known(count=base) if kind == "count" else Known(base)
+    word, _, rest = text.partition(" ")
+    total, count, _ = numbers(rest, 3)
+    return None if word == "none" else ratio_of(word), Known(total, count)
+
+
+def cuts_of(kind: str, reply: Reply) -> tuple[Answer, Known, tuple[Cut, ...]]:
+    """The reply to `certify` of a kind: the answer, what is known, and the cut windows."""
     rows = rows_of(reply, "certify")
-    answer, base, _ = numbers(after(reply.head, "certify"), 3)
+    answer, base = _head(kind, after(reply.head, "certify"))
     cuts = []
     for inner, outer in zip(rows[::2], rows[1::2]):
         first, last, inside = _side(inner, "inside")
@@ -85,32 +142,32 @@ def cuts_of(reply: Reply) -> tuple[int, int, tuple[Cut, ...]]:
 class Certificate:
     """Values that a stream may have had, for all that the store knows, with which this end is right.
 
-    All numbers are the stream's whole numbers. `answer` is `base` and what lies inside.
+    All numbers are the stream's whole numbers. `answer` is that of `base`, the values which are known to lie
+    in the range, and of those inside.
     """
 
     kind: str
     end: str
     first: int
     last: int
-    answer: int
-    base: int
+    answer: Answer
+    base: Known
     cuts: tuple[Cut, ...]
-    answered: int
+    answered: Answer
     windows: tuple[Bounds, ...]
     landmarks: tuple[Span, ...]
-    marked: int
+    marked: Known
     landmarks_listed: int
 
-    def check(self) -> int:
+    def check(self) -> Answer:
         """Checks it, and gives the answer that it shows. Raises CertificateError where it is wrong."""
         if len(self.landmarks) != self.landmarks_listed:
             raise CertificateError(f"the stream has {self.landmarks_listed} landmarks, and the times of "
                                    f"{len(self.landmarks)} were given: `certify(.., landmarks=..)`")
         times = [time for span in self.landmarks for time in span]
         _need(times == sorted(times), "the landmarks are told out of order, or one ends before it begins")
-        known = self.marked
-        known += sum(window.count if self.kind == "count" else window.sum
-                     for window in self.windows if self._whole(window))
+        whole = [Known(window.sum, window.count) for window in self.windows if self._whole(window)]
+        known = sum(whole, self.marked).of_kind(self.kind)
         _need(self.base == known, f"whole windows and landmarks have {known} in the range")
         cut = [window for window in self.windows if self._is_cut(window)]
         _need(len(cut) == len(self.cuts), f"the range cuts {len(cut)} windows")
@@ -118,8 +175,9 @@ class Certificate:
             _need((told.first, told.last) == (window.first, window.last),
                   f"the range cuts the window {window.first} to {window.last}")
             self._check_window(window, told)
-            known += told.inside.count if self.kind == "count" else told.inside.total
-        _need(self.answer == known, f"what is known and the values inside are {known}")
+            known += told.inside.known
+        found = known.answer(self.kind)
+        _need(self.answer == found, f"what is known and the values inside are {found}")
         _need(self.answer == self.answered, f"the query is answered {self.answered}")
         return self.answer
 
@@ -132,7 +190,7 @@ class Certificate:
                   place + "the runs are other numbers of values")
         values = [value for value, _ in inside.runs + outside.runs]
         _need(inside.count + outside.count == window.count, place + f"it has {window.count} values")
-        _need(inside.total + outside.total == window.sum, place + f"its sum is {window.sum}")
+        _need(inside.known.total + outside.known.total == window.sum, place + f"its sum is {window.sum}")
         _need(min(values) == window.least and max(values) == window.greatest,
               place + f"its least and greatest value are {window.least} and {window.greatest}")
         # The first and the last value have their times, and each other one needs a free time between.

@@ -10,7 +10,7 @@ from collections.abc import Iterator, Sequence
 from contextlib import contextmanager, suppress
 from typing import TypeVar
 
-from . import calls
+from . import calls, older
 from .base import Base
 from .calls import Call
 from .codec import Codec, Translator
@@ -19,7 +19,7 @@ from .errors import CursorBusyError, ProcessEndedError, ReopenedWarning, StoreCl
 from .pipeline import Commands, Request
 from .program import StorePath
 from .records import Window
-from .wire import MOST_ROWS
+from .wire import MOST_ROWS, Reply
 
 T = TypeVar("T")
 LOOK_AGAIN = 0.1
@@ -174,10 +174,13 @@ class Channel(Base):
             return request
 
     def _do(self, call: Call[T]) -> T:
-        request = self.send(call.lines)
+        return older.answer(call, self._replies)
+
+    def _replies(self, lines: Sequence[str]) -> Sequence[Reply]:
+        request = self.send(lines)
         if request.error is not None:
             raise request.error
-        return call.answer(request.replies)
+        return request.replies
 
     def _do_in(self, call: Call[T], session: int, only: Connection) -> T:
         """A call of a cursor, in its session and with its process."""

@@ -186,14 +186,15 @@ def _numpy_count(given: object) -> int:
     return int(count * int(unit[1] or 1) * _SPANS[unit[2]])
 
 
-def from_now(given: object) -> int | None:
-    """Nanoseconds since 1970 of what is told from the present: `now`, `now-1h`, or a timedelta from now."""
+def from_now(given: object, present: int | None = None) -> int | None:
+    """Nanoseconds since 1970 of what is told from the present: `now`, `now-1h`, or a timedelta from now. The
+    present is that of the clock where it isn't given."""
     if isinstance(given, datetime.timedelta):
-        return time.time_ns() + span_of(given)
+        return (time.time_ns() if present is None else present) + span_of(given)
     if isinstance(given, str) and (found := NOW.fullmatch(given)):
         unit = "min" if found[3] == "m" else found[3]
         span = span_of(f"{found[2]}{unit}") if found[1] else 0
-        return time.time_ns() + (-span if found[1] == "-" else span)
+        return (time.time_ns() if present is None else present) + (-span if found[1] == "-" else span)
     return None
 
 
@@ -253,21 +254,26 @@ class Clock:
         """Nanoseconds from 1970 to a day in UTC."""
         return midnight(day, UTC)
 
-    def begin(self, given: object) -> int:
+    def begin(self, given: object, present: int | None = None) -> int:
         """The first count at a time or after it."""
-        count = self._end_of_range(given, 0, False)
+        count = self._end_of_range(given, 0, False, present)
         if count > LAST_TIME:
             raise TimeError(f"{given} is after the last time that the stream can have")
         return max(0, count)
 
-    def end(self, given: object) -> int:
+    def end(self, given: object, present: int | None = None) -> int:
         """The last count at a time or before it. A day ends with its last count."""
-        count = self._end_of_range(given, LAST_TIME, True)
+        count = self._end_of_range(given, LAST_TIME, True, present)
         if count < 0:
             raise TimeError(f"{given} is before the first time that the stream can have")
         return min(count, LAST_TIME)
 
-    def _end_of_range(self, given: object, otherwise: int, is_end: bool) -> int:
+    def range_of(self, first: object, last: object) -> tuple[int, int]:
+        """The first and the last count of a range. Where both are told from the present it is one moment."""
+        present = time.time_ns()
+        return self.begin(first, present), self.end(last, present)
+
+    def _end_of_range(self, given: object, otherwise: int, is_end: bool, present: int | None) -> int:
         if given is None:
             return otherwise
         count = self._count(given)
@@ -276,7 +282,7 @@ class Clock:
         day = day_of(given)
         if day is not None and is_end:
             return -((self._origin - self._midnight(day, 1)) // self._step) - 1
-        since = (self._nanoseconds(given) if day is None else self._midnight(day)) - self._origin
+        since = (self._nanoseconds(given, present) if day is None else self._midnight(day)) - self._origin
         return since // self._step if is_end else -(-since // self._step)
 
     def step(self, given: object) -> int:
@@ -323,14 +329,14 @@ class Clock:
             return int(index())
         return None
 
-    def _nanoseconds(self, given: object) -> int:
+    def _nanoseconds(self, given: object, present: int | None = None) -> int:
         if isinstance(given, datetime.datetime):
             if given != given:      # pandas NaT
                 raise TimeError("not a time: NaT")
             return nanoseconds(given, self._zone)
-        present = from_now(given)
-        if present is not None:
-            return present
+        found = from_now(given, present)
+        if found is not None:
+            return found
         if is_float(given):
             return _of_float(given)
         day = day_of(given)

@@ -5,10 +5,11 @@ from __future__ import annotations
 
 import datetime
 from collections.abc import Callable, Container, Iterable, Sequence
+from fractions import Fraction
 from typing import NamedTuple, Protocol, cast
 
 from .calendars import Calendar, Counting
-from .decimals import Number
+from .decimals import Number, shortened
 from .description import Description
 from .errors import DescriptionError, NumberError, SummaryStoreError, UnknownStreamError
 from .interval import Interval
@@ -33,6 +34,9 @@ class Codec(Protocol):
     def end(self, given: object) -> int:
         """The last time of a range. None is the last of all."""
 
+    def range_of(self, first: object, last: object) -> tuple[int, int]:
+        """The first and the last time of a range, of which `now` is one moment."""
+
     def step(self, given: object) -> int:
         """A span of time."""
 
@@ -53,6 +57,9 @@ class Codec(Protocol):
 
     def interval_back(self, kind: str, interval: Interval) -> Interval:
         """An answer as it is shown."""
+
+    def ratio_back(self, ratio: Fraction, rounding: str) -> Number:
+        """A mean of values as it is shown, rounded where it has many digits more than the scale."""
 
     def in_zone(self, zone: str | datetime.tzinfo) -> Codec:
         """The same, with times of this zone."""
@@ -143,6 +150,10 @@ class PlainCodec:
         """A whole number, or 2^62."""
         return LAST_TIME if given is None else self.whole(given)
 
+    def range_of(self, first: object, last: object) -> tuple[int, int]:
+        """Whole numbers, or 0 and 2^62."""
+        return self.begin(first), self.end(last)
+
     def step(self, given: object) -> int:
         """A whole number."""
         return self.whole(given)
@@ -173,6 +184,10 @@ class PlainCodec:
         """The interval."""
         return interval
 
+    def ratio_back(self, ratio: Fraction, rounding: str) -> Number:
+        """A decimal of at most 12 digits behind the point."""
+        return shortened(ratio, 0, rounding)
+
     def in_zone(self, zone: str | datetime.tzinfo) -> Codec:
         """Not known: what the times count isn't told."""
         raise DescriptionError(f"{self.short} has no description, so it has no days of a zone")
@@ -184,6 +199,19 @@ class PlainCodec:
     def counting(self) -> Counting:
         """Counts alone."""
         return Counting(0, 1)
+
+
+class Through:
+    """A codec that is another one, but for what a class has by itself."""
+
+    def __init__(self, codec: Codec) -> None:
+        self.short, self.description, self.told = codec.short, codec.description, codec.told
+        self.time, self.begin, self.end, self.range_of = codec.time, codec.begin, codec.end, codec.range_of
+        self.step, self.now, self.value = codec.step, codec.now, codec.value
+        self.time_back, self.value_back = codec.time_back, codec.value_back
+        self.interval_back, self.ratio_back = codec.interval_back, codec.ratio_back
+        self.in_zone, self.calendar, self.counting = codec.in_zone, codec.calendar, codec.counting
+        self._codec = codec
 
 
 class Plain:

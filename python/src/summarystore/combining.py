@@ -13,7 +13,11 @@ from .interval import Interval, mean_of
 
 Part = Mapping[str, Interval]
 
-KINDS = ("count", "sum", "min", "max")
+FIGURES = ("count", "sum", "min", "max")
+KINDS = (*FIGURES, "mean")
+"""What is needed for a mean of several: that of each too, since theirs lies between these."""
+ADDED = ("count", "sum", "integral")
+"""What is 0 where there are no values."""
 METERS = ("increase", "integral")
 """What meters are asked, which over several of them is the sum."""
 
@@ -25,7 +29,7 @@ def needed(kind: str) -> Sequence[str]:
 
 def empty(kinds: Iterable[str]) -> Part:
     """What is known of no streams, and of a stream without a value."""
-    return {kind: Interval.nothing() if kind in ("min", "max", "increase") else Interval(0) for kind in kinds}
+    return {kind: Interval(0) if kind in ADDED else Interval.nothing() for kind in kinds}
 
 
 def joined(kinds: Sequence[str], parts: Iterable[Part]) -> Part:
@@ -35,10 +39,19 @@ def joined(kinds: Sequence[str], parts: Iterable[Part]) -> Part:
 
 
 def answer(kind: str, part: Part) -> Interval:
-    """The answer of a kind."""
-    if kind == "mean":
-        return mean_of(part["sum"], part["count"], part["min"], part["max"])
-    return part[kind]
+    """The answer of a kind. A mean is that of one of them, where no other may have a value."""
+    if kind != "mean":
+        return part[kind]
+    found, each = mean_of_figures(part), part["mean"]
+    if found.none or each.none:
+        return Interval.nothing()
+    lo, hi = max(found.lo, each.lo), min(found.hi, each.hi)
+    return Interval(lo, hi, maybe_none=found.maybe_none) if lo <= hi else found
+
+
+def mean_of_figures(part: Part) -> Interval:
+    """What is known of a mean by the count, the sum, the least and the greatest alone."""
+    return mean_of(part["sum"], part["count"], part["min"], part["max"])
 
 
 def _joined(kind: str, intervals: Sequence[Interval]) -> Interval:
@@ -46,6 +59,8 @@ def _joined(kind: str, intervals: Sequence[Interval]) -> Interval:
         return least_of(intervals)
     if kind == "max":
         return greatest_of(intervals)
+    if kind == "mean":
+        return hull_of(intervals)
     return rise_of(intervals) if kind == "increase" else total_of(intervals)
 
 
@@ -89,3 +104,12 @@ def greatest_of(intervals: Iterable[Interval]) -> Interval:
     sure = [each.lo for each in some if not each.maybe_none]
     lo = max(sure) if sure else min(each.lo for each in some)
     return Interval(lo, max(each.hi for each in some), maybe_none=not sure)
+
+
+def hull_of(intervals: Iterable[Interval]) -> Interval:
+    """From the least end to the greatest: between the means of those that have values lies that of all."""
+    some = [each for each in intervals if not each.none]
+    if not some:
+        return Interval.nothing()
+    return Interval(min(each.lo for each in some), max(each.hi for each in some),
+                    maybe_none=all(each.maybe_none for each in some))

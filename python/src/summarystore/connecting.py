@@ -12,7 +12,7 @@ from types import TracebackType
 from typing import Self, TypeVar, cast
 from urllib.response import addinfourl
 
-from . import calls, remote
+from . import calls, older, remote
 from .calls import Call
 from .errors import LateError, ServiceError, StoreClosedError, UnknownStreamError
 from .frames import columns_of, frame_of, names_left
@@ -23,6 +23,7 @@ from .questions import Questions
 from .records import Stored, Window
 from .remote import Ask, Body, Described, Posts, RemoteNames
 from .sending import OnRefused
+from .wire import Reply
 
 T = TypeVar("T")
 
@@ -86,7 +87,10 @@ class RemoteStore(Described, Questions):
         return ask.result(told)
 
     def _do(self, call: Call[T]) -> T:
-        return call.answer([reply for ask in remote.questions(call.lines) for reply in self._ask(ask)])
+        return older.answer(call, self._replies)
+
+    def _replies(self, lines: Sequence[str]) -> Sequence[Reply]:
+        return [reply for ask in remote.questions(lines) for reply in self._ask(ask)]
 
     # ---- streams ------------------------------------------------------------------------
 

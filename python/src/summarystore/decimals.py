@@ -3,8 +3,9 @@
 from __future__ import annotations
 
 import re
-from decimal import (MAX_EMAX, MIN_EMIN, Clamped, Context, Decimal, DivisionByZero, Inexact,
-                     InvalidOperation, Overflow, Underflow)
+from decimal import (MAX_EMAX, MIN_EMIN, ROUND_CEILING, ROUND_FLOOR, Clamped, Context, Decimal,
+                     DivisionByZero, Inexact, InvalidOperation, Overflow, Underflow)
+from fractions import Fraction
 from typing import SupportsIndex, Union
 
 from .errors import NotANumberError
@@ -19,6 +20,8 @@ NUMBER = re.compile(r"[+-]?(?:[0-9]+(?:\.[0-9]*)?|\.[0-9]+)(?:[eE][+-]?[0-9]{1,4
 # Longer text, or a greater exponent, is no value of 64 bits in any scale, and would take memory.
 LONGEST = 400
 MOST_EXPONENT = 200
+MORE = 12
+"""A quotient of numbers of a scale has at most so many digits more than the scale."""
 
 
 def decimal_of(text: str) -> Decimal:
@@ -60,3 +63,25 @@ def _bounded(value: Decimal) -> Decimal:
     if len(value.as_tuple().digits) > LONGEST:
         raise NotANumberError("not a number of any stream: it has more than 400 digits")
     return value
+
+
+def shortened(value: Fraction, places: int, rounding: str) -> Number:
+    """A fraction as a decimal with so many digits behind the point, and as many more as it needs. Where it
+    needs more than 12 it is rounded: down, up, or half to even."""
+    digits = places + MORE
+    found, rest = divmod(value.numerator * 10**digits, value.denominator)
+    if rounding == ROUND_CEILING:
+        found += rest > 0
+    elif rounding != ROUND_FLOOR:
+        twice = 2 * rest - value.denominator
+        found += twice > 0 or twice == 0 and found % 2
+    while digits > places and found % 10 == 0:
+        found, digits = found // 10, digits - 1
+    return Decimal(found).scaleb(-digits, EXACT) if digits else found
+
+
+def places_of(value: Number) -> int:
+    """How many digits a number has behind its point, without zeros at its end."""
+    exponent = 0 if isinstance(value, int) else value.normalize(EXACT).as_tuple().exponent
+    assert isinstance(exponent, int)
+    return max(0, -exponent)

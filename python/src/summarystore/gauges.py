@@ -17,7 +17,7 @@ from typing import NamedTuple
 
 from . import calls, wire
 from .calls import Call
-from .codec import Codec, PlainCodec, Translator
+from .codec import Codec, PlainCodec, Through, Translator
 from .decimals import EXACT, Number
 from .description import NANOSECONDS, RULES, Description, Meter
 from .errors import DescriptionError, LateError, MeterError
@@ -90,17 +90,12 @@ class Gauge:
         return (stood if self._rule == "step" else stood + value) * length
 
 
-class GaugeCodec:
+class GaugeCodec(Through):
     """The codec of a gauge while readings are taken: what it gives are readings and their increments."""
 
     def __init__(self, codec: Codec, gauge: Gauge, beside: str) -> None:
-        self.short, self.description = codec.short, codec.description
-        self.time, self.begin, self.end = codec.time, codec.begin, codec.end
-        self.step, self.now, self.value = codec.step, codec.now, codec.value
-        self.time_back, self.value_back = codec.time_back, codec.value_back
-        self.interval_back, self.told = codec.interval_back, codec.told
-        self.in_zone, self.calendar, self.counting = codec.in_zone, codec.calendar, codec.counting
-        self._codec, self._gauge, self._beside = codec, gauge, beside
+        super().__init__(codec)
+        self._gauge, self._beside = gauge, beside
 
     def rows(self, given: Sequence[tuple[object, object]]) -> Sequence[tuple[int, int]]:
         """The readings alone."""

@@ -30,7 +30,7 @@ def query(codec: Codec, kind: str, first: object, last_time: object, begun: int 
     mean by time is asked."""
     if kind not in KINDS:
         return calls.query(codec, kind, first, last_time)
-    begin, end = codec.begin(first), codec.end(last_time)
+    begin, end = codec.range_of(first, last_time)
     inner = _rows(codec, kind, begin, end, max(1, end - begin), begun)
     return Call(inner.lines, lambda replies: inner.result(replies)[0][1])
 
@@ -44,7 +44,7 @@ def series(name: str, codec: Codec, kind: str, first: object, last_time: object,
     if calendar is not None:
         return row_calls.calendar_rows(name, codec, calendar, first, last_time,
                                        lambda edges: rows(name, codec, kind, edges, begun))
-    inner = _rows(codec, kind, codec.begin(first), codec.end(last_time), codec.step(step), begun)
+    inner = _rows(codec, kind, *codec.range_of(first, last_time), codec.step(step), begun)
     return Call(inner.lines, lambda replies: row_calls.series_of(name, codec, kind, inner.result(replies)))
 
 

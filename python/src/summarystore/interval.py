@@ -10,7 +10,7 @@ from decimal import (MAX_EMAX, MIN_EMIN, ROUND_CEILING, ROUND_FLOOR, Context, De
                      localcontext)
 from fractions import Fraction
 
-from .decimals import EXACT, Number, exact, is_truth_value
+from .decimals import EXACT, Number, exact, is_truth_value, places_of, shortened
 from .errors import NoValueError
 
 # Quotients: their ends are rounded outwards, to more digits than a sum of 128 bits has.
@@ -287,13 +287,15 @@ def mean_of(total: Interval, count: Interval, least: Interval | None = None,
     """The mean of some values, from intervals of their sum and their number.
 
     The least and the greatest of them make it narrower. Where the number may be 0 there may be no
-    mean, and the interval holds it if there is one.
+    mean, and the interval holds it if there is one. Its ends are rounded outwards where they have more
+    than 12 digits more than the sum.
     """
     if count.hi <= 0:
         return Interval.nothing()
-    least_count = max(1, count.lo)
-    mean = total / Interval(least_count, count.hi)
-    lo, hi = mean.lo, mean.hi
+    counts = Fraction(max(1, count.lo)), Fraction(count.hi)
+    places = max(places_of(total.lo), places_of(total.hi))
+    lo = shortened(min(Fraction(total.lo) / each for each in counts), places, ROUND_FLOOR)
+    hi = shortened(max(Fraction(total.hi) / each for each in counts), places, ROUND_CEILING)
     if least is not None and not least.none:
         lo = max(lo, least.lo)
     if greatest is not None and not greatest.none:

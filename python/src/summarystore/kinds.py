@@ -9,7 +9,7 @@ from .errors import KindError
 
 Kind = Literal["count", "sum", "min", "max", "mean", "increase", "integral", "time_mean"]
 """What `query` and `series` answer."""
-Estimated = Literal["count", "sum"]
+Estimated = Literal["count", "sum", "mean"]
 """What has a likeliest number, and certificates."""
 End = Literal["lo", "hi"]
 

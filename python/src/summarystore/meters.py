@@ -14,7 +14,7 @@ import logging
 from collections.abc import Callable, Sequence
 from typing import NamedTuple
 
-from .codec import Codec
+from .codec import Codec, Through
 from .description import Meter
 from .errors import DescriptionError, MeterError
 from .interval import Interval
@@ -92,17 +92,12 @@ class Counter:
                  "overflow" if over else "reset")
 
 
-class CounterCodec:
+class CounterCodec(Through):
     """The codec of a counter while readings are taken: what it gives is what is kept."""
 
     def __init__(self, codec: Codec, counter: Counter) -> None:
-        self.short, self.description = codec.short, codec.description
-        self.time, self.begin, self.end = codec.time, codec.begin, codec.end
-        self.step, self.now, self.value = codec.step, codec.now, codec.value
-        self.time_back, self.value_back = codec.time_back, codec.value_back
-        self.interval_back, self.told = codec.interval_back, codec.told
-        self.in_zone, self.calendar, self.counting = codec.in_zone, codec.calendar, codec.counting
-        self._codec, self._counter = codec, counter
+        super().__init__(codec)
+        self._counter = counter
 
     def rows(self, given: Sequence[tuple[object, object]]) -> Numbers:
         """Times and readings as what is kept of them."""

@@ -46,9 +46,9 @@ class DescribedCodec:
         self.told: set[str] = set() if told is None else told
         clock = self.clock = Clock(description.time, description.since, zone)
         scale = self.scale = Scale(description.scale, description.rounding)
-        self.time, self.begin, self.end = clock.time, clock.begin, clock.end
+        self.time, self.begin, self.end, self.range_of = clock.time, clock.begin, clock.end, clock.range_of
         self.step, self.now, self.time_back = clock.step, clock.now, clock.back
-        self.value, self.value_back = scale.number, scale.value
+        self.value, self.value_back, self.ratio_back = scale.number, scale.value, scale.ratio
 
     def rows(self, given: Sequence[tuple[object, object]]) -> Sequence[tuple[int, int]]:
         """Times and values together."""

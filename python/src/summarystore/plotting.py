@@ -5,6 +5,7 @@ from __future__ import annotations
 from collections.abc import Sequence
 from typing import TYPE_CHECKING
 
+from .decimals import MORE, places_of
 from .errors import TimeError
 from .records import Row
 from .series import Series
@@ -63,9 +64,13 @@ def _runs(series: Sequence[Row]) -> list[list[int]]:
 
 
 def _is_known(row: Row) -> bool:
-    """Whether both ends are one, as far as a picture shows. A mean may have no last digit."""
+    """Whether both ends are one, as far as a picture shows. A mean without a last digit is rounded outwards
+    at its twelfth, or a later one."""
     interval = row.interval
-    return not interval.maybe_none and float(interval.lo) == float(interval.hi)
+    if interval.maybe_none:
+        return False
+    digits = max(places_of(interval.lo), places_of(interval.hi))
+    return interval.exact or digits >= MORE and interval.width * 10**digits == 1
 
 
 def _labelled(ax: Axes, series: Series) -> Axes:

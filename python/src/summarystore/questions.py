@@ -73,8 +73,11 @@ class Questions:
         return self._do(calls.value_at(self._translator.codec(name), time))
 
     def mean(self, name: str, t1: object | None = None, t2: object | None = None) -> Interval:
-        """The mean of the values from t1 to t2."""
-        return self._do(calls.mean(self._translator.codec(name), t1, t2))
+        """The mean of the values from t1 to t2: no end of it can be narrower, for all that the store knows.
+
+        It has at most 12 digits more than the scale. What doesn't end there is rounded outwards.
+        """
+        return self._do(calls.query(self._translator.codec(name), "mean", t1, t2))
 
     def has(self, name: str, value: object, t1: object | None = None, t2: object | None = None
             ) -> Presence:
@@ -98,7 +101,7 @@ class Questions:
 
     def estimate(self, name: str, kind: Estimated, t1: object | None = None, t2: object | None = None
                  ) -> Estimate:
-        """`count` or `sum` of the values from t1 to t2, and the likeliest number in its interval."""
+        """`count`, `sum` or `mean` of the values from t1 to t2, and the likeliest number in its interval."""
         return self._do(calls.estimate(self._translator.codec(name), kind, t1, t2))
 
     def estimates(self, name: str, kind: Estimated, t1: object | None, t2: object | None, step: object
@@ -123,7 +126,7 @@ class Questions:
     def certify(self, name: str, kind: Estimated, end: End, t1: object | None = None,
                 t2: object | None = None,
                 landmarks: Sequence[tuple[object, object]] = ()) -> Certificate:
-        """Why the end `lo` or `hi` of a count or a sum can't be narrower: `.check()` checks it.
+        """Why the end `lo` or `hi` of a count, a sum or a mean can't be narrower: `.check()` checks it.
 
         The check has to be told when the landmarks of the stream began and ended, the oldest first; the
         end of one that is open is None.
@@ -157,9 +160,10 @@ class Questions:
             if span is None:
                 raise NoValueError(f"{name} has no values yet")
             t1, t2 = (span[0] if t1 is None else t1), (span[1] if t2 is None else t2)
+        begin, end = codec.range_of(t1, t2)
         if step is None:
-            step = max(1, (codec.end(t2) - codec.begin(t1)) // ROWS + 1)
-        return self.series(name, kind, t1, t2, step), t2
+            step = max(1, (end - begin) // ROWS + 1)
+        return self.series(name, kind, begin, end, step), end
 
     def ends(self, name: str, last: object) -> Time:
         """A last time, as it is shown."""

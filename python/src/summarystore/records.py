@@ -79,18 +79,19 @@ class Row(NamedTuple):
 
 
 class Estimate(NamedTuple):
-    """The interval that a query is answered, and the likeliest number in it."""
+    """The interval that a query is answered, and the likeliest number in it: None where there is no mean."""
 
     interval: Interval
-    guess: Number
+    guess: Number | None
 
 
 class EstimateRow(NamedTuple):
-    """One row of estimates: where it begins, the interval of its times, and the likeliest number in it."""
+    """One row of estimates: where it begins, the interval of its times, and the likeliest number in it: None
+    where there is no mean."""
 
     start: Time
     interval: Interval
-    guess: Number
+    guess: Number | None
 
 
 class Soundness(NamedTuple):

@@ -12,10 +12,9 @@ from . import wire
 from .calendars import Calendar
 from .calls import Call, estimate, estimate_of, increases, query, row_of
 from .codec import Codec, streams_of
-from .combining import KINDS
 from .description import unit_of
 from .errors import StepWarning, refusal_of
-from .interval import Interval, mean_of
+from .interval import Interval
 from .kinds import ESTIMATED, KINDS as ASKED, one_of
 from .records import EstimateRow, Row
 from .series import Series
@@ -29,7 +28,7 @@ MOST_ROWS = 100_000
 def increase_rows(codec: Codec, first: object, last_time: object, step: object
                   ) -> Call[Sequence[tuple[int, Interval]]]:
     """The same in rows: from each step until the next."""
-    begin, end, each = codec.begin(first), codec.end(last_time), codec.step(step)
+    (begin, end), each = codec.range_of(first, last_time), codec.step(step)
     if each < 1 or end < begin:
         raise refusal_of("RANGE", f"series {codec.short} increase {begin} {end} {each}")
     if (end - begin) // each >= MOST_ROWS:
@@ -61,7 +60,7 @@ def calendar_rows(name: str, codec: Codec, calendar: Calendar, first: object, la
                   made: Callable[[Sequence[int]], Call[T]]) -> Call[T]:
     """A call for the rows of a zone. Where a stream's step doesn't fit them that is told, once."""
     counting = codec.counting()
-    begin, end = (counting.moment(count) for count in (codec.begin(first), codec.end(last_time)))
+    begin, end = map(counting.moment, codec.range_of(first, last_time))
     if end < begin:
         raise refusal_of("RANGE", f"series {codec.short} {first} {last_time}")
     found = calendar.edges(begin, end, MOST_ROWS)
@@ -86,7 +85,7 @@ def calendar_rows(name: str, codec: Codec, calendar: Calendar, first: object, la
 
 def series(name: str, codec: Codec, kind: str, first: object, last_time: object, step: object
            ) -> Call[Series]:
-    """The rows of one kind, or of the mean."""
+    """The rows of one kind."""
     calendar = codec.calendar(step)
     if calendar is not None:
         return calendar_rows(name, codec, calendar, first, last_time,
@@ -94,20 +93,9 @@ def series(name: str, codec: Codec, kind: str, first: object, last_time: object,
     if kind == "increase":
         asked = increase_rows(codec, first, last_time, step)
         return Call(asked.lines, lambda replies: series_of(name, codec, kind, asked.result(replies)))
-    kinds = KINDS if one_of(kind, ASKED) == "mean" else (kind,)
-    here = codec.begin(first), codec.end(last_time), codec.step(step)
-    lines = [wire.series(codec.short, each, *here) for each in kinds]
-
-    def result(replies: Sequence[Reply]) -> Series:
-        columns = [[row_of(codec, each, row) for row in wire.rows_of(reply, "series")]
-                   for each, reply in zip(kinds, replies)]
-        if kind == "mean":
-            rows = [(c[0], mean_of(s[1], c[1], least[1], greatest[1]))
-                    for c, s, least, greatest in zip(*columns)]
-        else:
-            rows = columns[0]
-        return series_of(name, codec, kind, rows)
-    return Call(lines, result)
+    line = wire.series(codec.short, one_of(kind, ASKED), *codec.range_of(first, last_time), codec.step(step))
+    return Call([line], lambda replies: series_of(name, codec, kind, [
+        row_of(codec, kind, row) for row in wire.rows_of(replies[0], "series")]))
 
 
 def series_of(name: str, codec: Codec, kind: str, rows: Sequence[tuple[int, Interval]]) -> Series:
@@ -123,7 +111,7 @@ def estimates(name: str, codec: Codec, kind: str, first: object, last_time: obje
     if calendar is not None:
         return calendar_rows(name, codec, calendar, first, last_time,
                              lambda edges: _estimate_rows(codec, kind, edges))
-    here = codec.begin(first), codec.end(last_time), codec.step(step)
+    here = *codec.range_of(first, last_time), codec.step(step)
 
     def result(replies: Sequence[Reply]) -> Sequence[EstimateRow]:
         rows = [row.partition(" ") for row in wire.rows_of(replies[0], "estimates")]

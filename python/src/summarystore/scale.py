@@ -5,10 +5,11 @@ from __future__ import annotations
 import re
 from collections.abc import Sequence
 from decimal import Context, Decimal
+from fractions import Fraction
 
-from .decimals import EXACT, Number, exact
+from .decimals import EXACT, Number, exact, places_of, shortened
 from .description import ROUNDINGS
-from .errors import NotANumberError, ScaleError
+from .errors import ScaleError
 from .interval import Interval
 
 
@@ -93,6 +94,11 @@ class Scale:
             return Decimal(number).scaleb(-self._places, EXACT)
         return EXACT.multiply(Decimal(number), self._scale)
 
+    def ratio(self, ratio: Fraction, rounding: str) -> Number:
+        """A mean of whole numbers as one of values, rounded where it has more than 12 digits more than the
+        scale."""
+        return shortened(ratio * Fraction(self._scale), places_of(self._scale), rounding)
+
     def interval(self, interval: Interval) -> Interval:
         """An interval of whole numbers as one of values."""
         if self._is_one or interval.none:
@@ -103,10 +109,4 @@ class Scale:
 
 def decimal_places(text: str) -> int:
     """How many digits a decimal has behind its point, without zeros at its end."""
-    value = exact(text)
-    if isinstance(value, int):
-        return 0
-    exponent = value.normalize(EXACT).as_tuple().exponent
-    if not isinstance(exponent, int):
-        raise NotANumberError(f"not a number: {text}")
-    return max(0, -exponent)
+    return places_of(exact(text))

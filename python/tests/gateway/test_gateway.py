@@ -15,7 +15,8 @@ from pathlib import Path
 import pytest
 from aiohttp import web
 
-from summarystore.fleet import directory
+from summarystore import Interval
+from summarystore.fleet import directory, gathering
 from summarystore.fleet.layout import parse
 from summarystore.server.errors import ConfigurationError
 
@@ -301,3 +302,18 @@ def test_days_of_a_zone_over_shards(folder: Path, program: str) -> None:
             one = await client.get("/api/series", stream=NAMES[0], **words)
             assert [row["time"] for row in one["rows"]] == [1764284400, 1764370800]
     run(work())
+
+
+def test_parts_of_a_mean() -> None:
+    """A service that is older tells no mean among them."""
+    def ends(lo: object, hi: object) -> object:
+        return {"lo": lo, "hi": hi, "none": False, "maybe_none": False}
+    parts: dict[str, object] = {"count": ends(2, 4), "sum": ends(-3, 25), "min": ends(-3, 2),
+                                "max": ends(8, 9)}
+    assert gathering.part_of("mean", {"parts": parts})["mean"] == Interval("-1.5", 9)
+    told = {"parts": {**parts, "mean": ends(-1, Decimal("8.5"))}}
+    assert gathering.part_of("mean", told)["mean"] == Interval(-1, "8.5")
+    amiss: dict[str, object] = {**parts, "mean": 5}
+    for wrong in ({}, {"parts": []}, {"parts": amiss}, {"parts": {"mean": ends(1, 2)}}):
+        with pytest.raises(gathering.MisspeltError):
+            gathering.part_of("mean", wrong)

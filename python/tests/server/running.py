@@ -10,10 +10,12 @@ import sys
 import urllib.error
 import urllib.request
 from collections.abc import Sequence
+from contextlib import suppress
 from pathlib import Path
 from typing import Any
 
 from ..conftest import HOME
+from ..ports import free_port
 from ..waiting import SECONDS, ended, until
 
 ENDS = 5.0
@@ -23,6 +25,12 @@ ENDS = 5.0
 def patience() -> float:
     """Within so many seconds it ends, on a machine that has other work."""
     return ENDS * max(1.0, 2 * os.getloadavg()[0] / (os.cpu_count() or 1))
+
+
+def over_store(folder: Path, mappings: str) -> Running:
+    """A run over a store of this folder, with these mappings."""
+    config = f'[http]\nlisten = "127.0.0.1:{free_port()}"\n[store]\npath = "{folder}/a.store"\n{mappings}'
+    return Running(folder, config=config)
 
 
 class Running:
@@ -46,6 +54,24 @@ class Running:
         """Starts it once more, after it has ended."""
         self._log.unlink()
         self.process = self._start()
+
+    def killed(self) -> None:
+        """Kills it, and starts it once more."""
+        self.process.kill()
+        self.process.wait()
+        self.start_again()
+
+    def kill_program(self) -> bool:
+        """Kills the store's program. Whether there was one."""
+        try:
+            pid = self.ask("/healthz")[1]["store"]["pid"]
+        except OSError:     # it isn't up
+            return False
+        with suppress(ProcessLookupError):
+            if pid is not None:
+                os.kill(pid, signal.SIGKILL)
+                return True
+        return False
 
     @property
     def log(self) -> str:

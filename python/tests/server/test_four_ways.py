@@ -11,7 +11,6 @@ import http.client
 import json
 import os
 import random
-import signal
 import socket
 import threading
 import time
@@ -172,29 +171,16 @@ class Publisher:
         self._client.loop_stop()
 
 
-def kill_them(service: Running, ports: Ports, senders: Sequence[Sender]) -> None:
+def kill_them(service: Running, senders: Sequence[Sender]) -> None:
     """Kills the service and the program in turn, spread over all that is sent."""
     chance = random.Random(11)
     for turn in range(2 * KILLS):
         wanted = EACH * len(senders) * (turn + chance.random()) / (2 * KILLS + 1)
         until(lambda: sum(sender.done for sender in senders) >= wanted, 600)
         if turn % 2:
-            until(lambda: kill_program(ports))
+            until(service.kill_program)
         else:
-            service.process.send_signal(signal.SIGKILL)
-            service.process.wait()
-            service.start_again()
-
-
-def kill_program(ports: Ports) -> bool:
-    """Kills the store's program. Whether there was one."""
-    status, said = ports.ask("GET", "/healthz")
-    pid = json.loads(said)["store"]["pid"] if status else None
-    with suppress(ProcessLookupError):
-        if pid is not None:
-            os.kill(pid, signal.SIGKILL)
-            return True
-    return False
+            service.killed()
 
 
 def test_nothing_acknowledged_is_lost(folder: Path, path: Path) -> None:
@@ -215,7 +201,7 @@ def test_nothing_acknowledged_is_lost(folder: Path, path: Path) -> None:
         senders += [Sender(lambda part: by_http(ports, part)), Sender(publisher),
                     Sender(lambda part: by_prometheus(ports, part)),
                     Sender(lambda part: by_graphite(ports, part))]
-        kill_them(service, ports, senders)
+        kill_them(service, senders)
         until(lambda: all(sender.done == EACH for sender in senders), 600)
         until(lambda: ports.newest("load/mqtt") >= START + EACH - 1, 600)
         assert service.end() == 0

@@ -3,17 +3,14 @@
 from __future__ import annotations
 
 import asyncio
-import os
-import signal
 from itertools import accumulate
 from pathlib import Path
 
 import summarystore
 from summarystore import aio
 
-from ..ports import free_port
 from ..waiting import run
-from .running import Running
+from .running import Running, over_store
 from .serving import over_http
 
 MAPPING = """
@@ -62,12 +59,9 @@ def hold_under_kills(running: Running, stream: str, kind: str, readings: list[in
                 for at in range(part * EACH, (part + 1) * EACH)]
         if part % 2:    # of the first rows it isn't known whether they are stored
             running.ask("/api/append", {"readings": rows[:7 + part]})
-            running.process.send_signal(signal.SIGKILL)
-            running.process.wait()
-            running.start_again()
+            running.killed()
         elif part:
-            _, health = running.ask("/healthz")
-            os.kill(health["store"]["pid"], signal.SIGKILL)
+            assert running.kill_program()
         status = 0
         while status != 200:
             status, _ = running.ask("/api/append", {"readings": rows})
@@ -82,8 +76,7 @@ def test_kills(folder: Path, program: str) -> None:
     readings = [time * 37 % 210 for time in range(8 * EACH)]
     truth = list(accumulate(value - last if value >= last else value
                             for last, value in zip([0, *readings], readings)))
-    config = f'[http]\nlisten = "127.0.0.1:{free_port()}"\n[store]\npath = "{folder}/a.store"\n{MAPPING}'
-    running = Running(folder, config=config.replace("overflow = 1000\n", ""))
+    running = over_store(folder, MAPPING.replace("overflow = 1000\n", ""))
     hold_under_kills(running, "home/energy", "value_at", readings, truth)
 
 
@@ -165,7 +158,6 @@ def test_gauges_over_a_service(path: Path) -> None:
 def test_kills_of_gauges(folder: Path, program: str) -> None:
     """Each body is sent again until it is answered. Its increments stand once then."""
     readings = [time * 37 % 210 for time in range(8 * EACH)]
-    config = f'[http]\nlisten = "127.0.0.1:{free_port()}"\n[store]\npath = "{folder}/a.store"\n{GAUGE}'
-    running = Running(folder, config=config.replace('"h"', '"s"'))
+    running = over_store(folder, GAUGE.replace('"h"', '"s"'))
     sums = [sum(readings[:at]) for at in range(len(readings))]
     hold_under_kills(running, "home/hall/power", "integral", readings, sums)

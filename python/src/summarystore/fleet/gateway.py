@@ -1,4 +1,8 @@
-"""The gateway: the service's face by HTTP over many shards."""
+"""The gateway: the service's face by HTTP over many shards.
+
+The mean of one stream is as its shard tells it. That of several is put together from their counts, sums,
+least and greatest values, and lies between their means: it may be wider than what is known of them.
+"""
 
 from __future__ import annotations
 

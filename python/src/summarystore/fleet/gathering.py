@@ -131,7 +131,10 @@ def part_of(kind: str, told: object) -> Part:
     parts = told.get("parts")
     if not isinstance(parts, Mapping):
         raise MisspeltError("no parts of a mean")
-    return {each: interval_of(parts.get(each)) for each in combining.KINDS}
+    found = {each: interval_of(parts.get(each)) for each in combining.FIGURES}
+    if "mean" not in parts:     # of a service that is older
+        return {**found, "mean": combining.mean_of_figures(found)}
+    return {**found, "mean": interval_of(parts["mean"])}
 
 
 def interval_of(told: object) -> Interval:

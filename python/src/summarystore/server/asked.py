@@ -5,6 +5,7 @@ from __future__ import annotations
 import datetime
 import difflib
 import re
+import time
 from collections.abc import Mapping, Sequence
 from decimal import Decimal, InvalidOperation
 
@@ -43,7 +44,16 @@ def no_kind(given: str, kinds: Sequence[str]) -> ApiError:
     return bad(f"`kind` is one of {', '.join(kinds)}, and not {given[:20]!r}{meant}")
 
 
-def nanoseconds(given: object, key: str, zone: datetime.tzinfo | None = None) -> int:
+def range_of(words: Mapping[str, str]) -> tuple[int | None, int | None]:
+    """The nanoseconds from `from` to `to`, each None where it isn't given. `now` is one moment in both."""
+    where, present = zone(words), time.time_ns()
+    first, last = (nanoseconds(words[key], key, where, present) if key in words else None
+                   for key in ("from", "to"))
+    return first, last
+
+
+def nanoseconds(given: object, key: str, zone: datetime.tzinfo | None = None, present: int | None = None
+                ) -> int:
     """A time: seconds since 1970, ISO 8601 with a zone or in that one, `now`, or `now-1h`."""
     if type(given) is int and abs(given) < MOST_SECONDS:
         return given * 10**9
@@ -55,7 +65,7 @@ def nanoseconds(given: object, key: str, zone: datetime.tzinfo | None = None) ->
     if SECONDS.fullmatch(text):
         return _of_seconds(text, key)
     try:
-        found = from_now(text)
+        found = from_now(text, present)
         if found is not None:
             return found
         lost = LOST_PLUS.fullmatch(text)

@@ -269,9 +269,9 @@ def _flat(newest: object) -> object:
 
 def _range(words: Mapping[str, str], meaning: Meaning) -> tuple[int | None, int | None]:
     """The counts from `from` to `to`, each None where it isn't given."""
-    zone = asked.zone(words)
-    first = meaning.first(asked.nanoseconds(words["from"], "from", zone)) if "from" in words else None
-    last = meaning.last(asked.nanoseconds(words["to"], "to", zone)) if "to" in words else None
+    begin, end = asked.range_of(words)
+    first = None if begin is None else meaning.first(begin)
+    last = None if end is None else meaning.last(end)
     if last is not None and last < (first or 0):
         raise asked.bad("the range ends before it begins, or before the first time there can be", "bad_range")
     return first, last

@@ -98,9 +98,7 @@ def kind_of(words: Mapping[str, str]) -> str:
 
 def range_of(words: Mapping[str, str]) -> tuple[int | None, int | None]:
     """The nanoseconds from `from` to `to`, each None where it isn't given."""
-    zone = asked.zone(words)
-    first = asked.nanoseconds(words["from"], "from", zone) if "from" in words else None
-    last = asked.nanoseconds(words["to"], "to", zone) if "to" in words else None
+    first, last = asked.range_of(words)
     if first is not None and last is not None and last < first:
         raise asked.bad("the range ends before it begins", "bad_range")
     return first, last
@@ -130,7 +128,7 @@ def rows_of(words: Mapping[str, str], most: int) -> Rows:
 
 
 def parts_of(part: Part) -> dict[str, object]:
-    """What a mean is made of, as it is answered."""
+    """What a mean is made of, as it is answered: the figures of all, and between what their means lie."""
     return {"parts": {kind: ends_of(interval) for kind, interval in part.items()}}
 
 

@@ -4,6 +4,7 @@ const LOCALES = navigator.languages?.length ? [...navigator.languages] : undefin
 const NBSP = "\u00a0";
 const MOST_DIGITS = 9;
 const QUOTIENT_DIGITS = 3;
+const MEAN_DIGITS = 12;
 
 /** A number with the text that it had. It counts as a number in arithmetic, and its text keeps every digit. */
 export class Decimal {
@@ -80,10 +81,17 @@ export function local(text, digits = Math.min(digitsOf(String(text)), MOST_DIGIT
   return format(digits).format(String(text).replace(/^-(?=[0.]*$)/, ""));
 }
 
-/** Whether both ends are one, as far as a picture shows. A mean may have no last digit. */
+/** How far the ends of one number may be apart: a mean without a last digit is rounded outwards at its twelfth or a later one. */
+function roundedApart({ lo, hi }) {
+  const digits = Math.max(digitsOf(String(lo)), digitsOf(String(hi)));
+  return digits < MEAN_DIGITS ? 0 : 1.5 * 10 ** -digits;
+}
+
+/** Whether both ends are one, as far as a picture shows. */
 export function isKnown(row) {
   if (row.none || row.maybe_none || row.lo === null || row.lo === undefined) return false;
-  return Number(row.hi) - Number(row.lo) <= 4 * Number.EPSILON * Math.max(Math.abs(row.lo), Math.abs(row.hi));
+  const near = 4 * Number.EPSILON * Math.max(Math.abs(row.lo), Math.abs(row.hi));
+  return Number(row.hi) - Number(row.lo) <= near + roundedApart(row);
 }
 
 /**

@@ -1,0 +1,4 @@
+pub mod DigitLemmas
+pub mod ReadLemmas
+mod Rows
+pub mod SumLemmas
