@@ -9,6 +9,7 @@ mod extremes;
 mod fraction;
 mod guess;
 mod laws;
+mod likeliest;
 mod lines;
 mod lowest;
 mod mean;
@@ -30,9 +31,11 @@ pub use laws::{
     ends_of_sums_are_attained, extremes_hold_the_truth, free_times_are_parted, guesses_lie_between,
     several_hold_the_truth, split_windows_hold_the_truth, values_can_be_parted,
 };
-pub use mean::Mean;
+pub use likeliest::mean_guess;
+pub use mean::{Mean, MeanGuess};
 pub use mean_laws::{
-    ends_of_means_are_attained, means_are_no_wider_than_sums, means_hold_the_truth,
+    ends_of_means_are_attained, guesses_of_means_lie_between, means_are_no_wider_than_sums,
+    means_hold_the_truth,
 };
 pub use means::mean_bounds;
 pub use split::Split;
