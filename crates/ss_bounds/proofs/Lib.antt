@@ -26,3 +26,6 @@ pub mod MeanTruthLemmas
 pub mod MeanRows
 pub mod MeanTruthRows
 pub mod MeanWidthLemmas
+pub mod ReachedLemmas
+pub mod MeanAttainedLemmas
+mod MeanAttainedRows

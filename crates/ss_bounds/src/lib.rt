@@ -12,6 +12,7 @@ mod laws;
 mod lines;
 mod lowest;
 mod mean;
+mod mean_attained;
 mod mean_laws;
 mod means;
 mod mixed;
@@ -31,8 +32,10 @@ pub use laws::{
     several_hold_the_truth, split_windows_hold_the_truth, values_can_be_parted,
 };
 pub use mean::Mean;
+pub use mean_attained::{greatest_mean_at, least_mean_at, lowest_mean};
 pub use mean_laws::{
     ends_of_means_are_attained, means_are_no_wider_than_sums, means_hold_the_truth,
 };
-pub use means::mean_bounds;
+pub use lines::{high_sum, low_sum};
+pub use means::{mean_bounds, with_values};
 pub use split::Split;
