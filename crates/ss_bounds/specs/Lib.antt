@@ -14,3 +14,4 @@ pub mod Means
 pub mod Corners
 pub mod MeanTruth
 pub mod MeanAttained
+pub mod MeanGuess
