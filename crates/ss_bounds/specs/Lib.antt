@@ -13,3 +13,4 @@ pub mod Fractions
 pub mod Means
 pub mod Corners
 pub mod MeanTruth
+pub mod MeanGuess

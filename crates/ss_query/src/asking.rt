@@ -9,14 +9,14 @@ ghost use Rattle.ss_model.specs.Marks.{lies_free};
 ghost use Rattle.ss_base.specs.declared.limits.TheConstants.{MOST_VALUES};
 ghost use Rattle.ss_query.specs.Asked.{Follows, HasCuts, IsCut, IsFewMarked, counts_of, counts_seen, cut_of, figures_of, joined_with, seen_count};
 ghost use Rattle.ss_base.specs.Near.{IsNear};
-ghost use Rattle.ss_query.specs.Asked.{seen_sum, left_with, marks_seen, outcome_seen, right_with, seen_with, sums_of, sums_seen, whole_with};
+ghost use Rattle.ss_query.specs.Asked.{seen_sum, left_with, values_seen, marks_seen, outcome_seen, right_with, seen_with, sums_of, sums_seen, whole_with};
 
 use crate::Cut;
 use crate::presence::{presence_of_marks, presence_with};
 use ss_base::{LAST_TIME, MOST_VALUES, Steps};
 use ss_bounds::{
-    Split, count_bounds, count_guess, greater, lesser, max_bounds, min_bounds, sum_bounds,
-    sum_guess,
+    Fraction, Split, count_bounds, count_guess, greater, lesser, max_bounds, mean_bounds, mean_guess,
+    min_bounds, sum_bounds, sum_guess,
 };
 use ss_catalog::{Kind, Query};
 use ss_landmarks::{Landmarks, Tally};
@@ -426,6 +426,41 @@ fn greatest_seen(seen: Seen) -> Outcome
     Outcome::Max(max_bounds(greater(whole, seen.marked.greatest), left, right))
 }
 
+// The sum and the count of what is known.
+fn values_seen(seen: Seen) -> Fraction
+    requires { IsFewMarked seen.marked }
+    ensures value { result ≡ values_seen seen }
+    ensures near { IsNear result.over }
+    ensures few { result.under ≤ 2 ^ 62 }
+{
+    Fraction {
+        over: known_sum(seen.whole, seen.marked),
+        under: known_count(seen.whole, seen.marked),
+    }
+}
+
+// What their mean is.
+fn mean_seen(seen: Seen) -> Outcome
+    requires { IsFewMarked seen.marked }
+    ensures { result ≡ outcome_seen Kind.Mean seen }
+{
+    let known = values_seen(seen);
+    let left = figures_of(seen.left);
+    let right = figures_of(seen.right);
+    Outcome::Mean(mean_bounds(known, left, right))
+}
+
+// What it is, and the likeliest one.
+fn mean_guessed(seen: Seen) -> Outcome
+    requires { IsFewMarked seen.marked }
+    ensures { result ≡ outcome_seen Kind.MeanGuess seen }
+{
+    let known = values_seen(seen);
+    let left = figures_of(seen.left);
+    let right = figures_of(seen.right);
+    Outcome::MeanEstimate(mean_guess(known, left, right))
+}
+
 /// What is answered from what is known.
 pub fn outcome_seen(seen: Seen, kind: Kind) -> Outcome
     requires { IsFewMarked seen.marked }
@@ -436,8 +471,10 @@ pub fn outcome_seen(seen: Seen, kind: Kind) -> Outcome
         Kind::Sum => sum_seen(seen),
         Kind::Min => least_seen(seen),
         Kind::Max => greatest_seen(seen),
+        Kind::Mean => mean_seen(seen),
         Kind::Has { .. } => Outcome::Has(seen.presence),
         Kind::CountGuess => count_guessed(seen),
         Kind::SumGuess => sum_guessed(seen),
+        Kind::MeanGuess => mean_guessed(seen),
     }
 }
