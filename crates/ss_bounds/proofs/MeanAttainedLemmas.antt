@@ -14,11 +14,12 @@ use Rattle.ss_bounds.specs.Extremes.{listed}
 use Rattle.ss_bounds.specs.Fractions.{IsAtMost, at_most, at_least, lowest}
 use Rattle.ss_bounds.specs.Guess.{AreAllSplit}
 use Rattle.ss_bounds.specs.MeanAttained.{attains, first_corner, first_passing, greatest_mean_at, is_same_mean, least_mean_at, sooner}
-use Rattle.ss_bounds.specs.Means.{best_mean, greatest_mean, least_mean, so_many, with_values}
+use Rattle.ss_bounds.specs.Means.{AddsUpTo, best_mean, greatest_mean, least_mean, so_many, with_values}
 use Rattle.ss_bounds.specs.Split.{SplitFigures, least_count, greatest_count, low_sum, high_sum}
-use Rattle.ss_bounds.proofs.BestLemmas.{AreAllSplit-ordered, AreOrdered, IsBest}
+use Rattle.ss_bounds.proofs.BestLemmas.{AreAllSplit-ordered, AreOrdered, IsBest, IsBest-best_mean}
 use Rattle.ss_bounds.proofs.CornerLemmas.{AreSame-lowest, AtCorners, found-at}
 use Rattle.ss_bounds.proofs.FractionLemmas.{IsAtMost-IsSame, IsOrder, IsOrder-at_least, IsOrder-at_most, IsSame-both, IsSame-sym, IsSame-trans}
+use Rattle.ss_bounds.proofs.MeanTruthLemmas.{as-many}
 use Rattle.ss_bounds.proofs.ReachedLemmas.{IsAttained, IsLevel, IsLevel-at_least, IsLevel-at_most, all-best, attained-sooner, best_with, of_all, some-attained, with-best}
 
 -- ---- the search
@@ -327,3 +328,29 @@ unfolding greatest_mean_at
 greatest_mean_at-attains known s splits all =
     let is = IsAttained-first IsOrder-at_least IsLevel-at_least high_sum known s splits (AreAllSplit-ordered (s ∷ splits) all) in
     record { from = is.from; to = is.to; same = AreSame-lowest _ _ is.same }
+
+-- ---- a mean has both ends or none
+
+abbrev pub AreBoth : Option Fraction → Option Fraction → Type 0
+AreBoth None None = Unit {0}
+AreBoth None (Some b) = ⊥
+AreBoth (Some a) None = ⊥
+AreBoth (Some a) (Some b) = Unit {0}
+
+both-from : (known : Fraction) (splits : List SplitFigures) (lo hi : Option Fraction) → IsBest IsOrder-at_most (AddsUpTo low_sum known splits) lo
+    → IsBest IsOrder-at_least (AddsUpTo high_sum known splits) hi → AreBoth (option_map lowest lo) (option_map lowest hi)
+both-from known splits None None low high = tt
+both-from known splits None (Some h) low high =
+    let other = as-many high_sum low_sum known known splits h refl high.reached in
+    absurd (omega (arith, other.2, low.none other.0 other.1, high.some))
+both-from known splits (Some l) None low high =
+    let other = as-many low_sum high_sum known known splits l refl low.reached in
+    absurd (omega (arith, other.2, high.none other.0 other.1, low.some))
+both-from known splits (Some l) (Some h) low high = tt
+
+pub both-ends : (known : Fraction) (splits : List SplitFigures) → AreAllSplit splits
+    → AreBoth (option_map lowest (least_mean known splits)) (option_map lowest (greatest_mean known splits))
+both-ends known splits all =
+    let ordered = AreAllSplit-ordered splits all in
+    both-from known splits (least_mean known splits) (greatest_mean known splits)
+    (IsBest-best_mean IsOrder-at_most low_sum known splits ordered) (IsBest-best_mean IsOrder-at_least high_sum known splits ordered)

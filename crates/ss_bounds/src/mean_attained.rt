@@ -66,11 +66,7 @@ fn first_corner(side: Side, known: Fraction, window: Corners, other: Option<Corn
 fn sooner(attained: bool, corner: Fraction, x: u64) -> u64
     ensures { result ≡ sooner attained corner x }
 {
-    if attained {
-        x.min(corner.under)
-    } else {
-        x
-    }
+    if attained { x.min(corner.under) } else { x }
 }
 
 // Whether the best mean of some values with those of the other window is this one.
