@@ -28,3 +28,7 @@ pub mod MeanTruthRows
 pub mod MeanWidthLemmas
 pub mod MeanGuessLemmas
 pub mod MeanGuessRows
+pub mod ReachedLemmas
+pub mod MeanAttainedLemmas
+mod MeanAttainedRows
+

@@ -86,7 +86,7 @@ pub use Rattle.ss_model.specs.Truth.{true_presence, is_one_of}
 pub use Rattle.ss_model.specs.Windows.{newest_time, taken, time_of_last}
 pub use Rattle.ss_model.specs.declared.newest.Newest.{Newest}
 pub use Rattle.ss_model.specs.declared.outcome.Outcome.{Outcome}
-pub use Rattle.ss_model.specs.declared.outcome.Outcome.TheVariants.{Has, Count, Sum, Min, Max, Estimate}
+pub use Rattle.ss_model.specs.declared.outcome.Outcome.TheVariants.{Has, Count, Sum, Min, Max, Mean, Estimate, MeanEstimate}
 pub use Rattle.ss_model.specs.declared.outcome.Presence.{Presence}
 pub use Rattle.ss_model.specs.declared.outcome.Presence.TheVariants.{Maybe, Absent, Present}
 pub use Rattle.ss_model.specs.declared.types.Ack.{Ack}

@@ -8,6 +8,7 @@ ghost use Rattle.ss_report.specs.declared.reply.Reply.TheVariants.{Done, Answere
 ghost use Rattle.ss_report.specs.declared.reply.Reply.TheVariants.{CertifyHead, Last, ValuesHead, Value, Cursor, Rows, Gap, Framed};
 ghost use Rattle.ss_report.specs.declared.reply.Reply.TheVariants as replies;
 
+use crate::means::{certify_mean_text, put_mean, put_mean_guess};
 use crate::{Reply, Side};
 use arrayvec::ArrayString;
 use ss_base::MOST_SESSIONS;
@@ -82,9 +83,9 @@ fn put_presence(presence: Presence, out: &mut ArrayString<256>)
 
 // Adds what an answer says.
 fn put_words(outcome: &Outcome, out: &mut ArrayString<256>)
-    requires { length out.old.bytes + 123 ≤ 256 }
+    requires { length out.old.bytes + 206 ≤ 256 }
     ensures bytes { out.new.bytes ≡ spaced out.old.bytes (answer_words outcome.now) }
-    ensures short { length out.new.bytes ≤ length out.old.bytes + 123 }
+    ensures short { length out.new.bytes ≤ length out.old.bytes + 197 }
 {
     match *outcome {
         Outcome::Count { lo, hi } => {
@@ -97,12 +98,14 @@ fn put_words(outcome: &Outcome, out: &mut ArrayString<256>)
         }
         Outcome::Min(extreme) => put_extreme(extreme, out),
         Outcome::Max(extreme) => put_extreme(extreme, out),
+        Outcome::Mean(mean) => put_mean(mean, out),
         Outcome::Has(presence) => put_presence(presence, out),
         Outcome::Estimate { lo, guess, hi } => {
             put_sum(lo, out);
             put_sum(guess, out);
             put_sum(hi, out);
         }
+        Outcome::MeanEstimate(mean) => put_mean_guess(mean, out),
     }
 }
 
@@ -115,8 +118,9 @@ fn kind_word(outcome: &Outcome) -> &'static str
         Outcome::Sum { .. } => "sum",
         Outcome::Min(_) => "min",
         Outcome::Max(_) => "max",
+        Outcome::Mean(_) => "mean",
         Outcome::Has(_) => "has",
-        Outcome::Estimate { .. } => "estimate",
+        Outcome::Estimate { .. } | Outcome::MeanEstimate(_) => "estimate",
     }
 }
 
@@ -375,6 +379,11 @@ pub fn reply_text(reply: &Reply, out: &mut ArrayString<256>)
             base,
             count,
         } => certify_text(*answer, *base, *count, out),
+        Reply::CertifyMeanHead {
+            answer,
+            known,
+            count,
+        } => certify_mean_text(*answer, *known, *count, out),
         Reply::Side(side) => runs_text(side, out),
         Reply::Last(newest) => last_text(newest, out),
         Reply::ValuesHead(count) => values_text(*count, out),
