@@ -26,3 +26,5 @@ pub mod MeanTruthLemmas
 pub mod MeanRows
 pub mod MeanTruthRows
 pub mod MeanWidthLemmas
+pub mod MeanGuessLemmas
+pub mod MeanGuessRows

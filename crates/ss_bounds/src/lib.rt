@@ -9,10 +9,10 @@ mod extremes;
 mod fraction;
 mod guess;
 mod laws;
+mod likeliest;
 mod lines;
 mod lowest;
 mod mean;
-mod mean_guess;
 mod mean_laws;
 mod means;
 mod mixed;
@@ -31,10 +31,11 @@ pub use laws::{
     ends_of_sums_are_attained, extremes_hold_the_truth, free_times_are_parted, guesses_lie_between,
     several_hold_the_truth, split_windows_hold_the_truth, values_can_be_parted,
 };
+pub use likeliest::mean_guess;
 pub use mean::{Mean, MeanGuess};
-pub use mean_guess::mean_guess;
 pub use mean_laws::{
-    ends_of_means_are_attained, means_are_no_wider_than_sums, means_hold_the_truth,
+    ends_of_means_are_attained, guesses_of_means_lie_between, means_are_no_wider_than_sums,
+    means_hold_the_truth,
 };
 pub use means::mean_bounds;
 pub use split::Split;
