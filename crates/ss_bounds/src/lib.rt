@@ -13,6 +13,7 @@ mod likeliest;
 mod lines;
 mod lowest;
 mod mean;
+mod mean_attained;
 mod mean_laws;
 mod means;
 mod mixed;
@@ -32,10 +33,12 @@ pub use laws::{
     several_hold_the_truth, split_windows_hold_the_truth, values_can_be_parted,
 };
 pub use likeliest::mean_guess;
+pub use lines::{high_sum, low_sum};
 pub use mean::{Mean, MeanGuess};
+pub use mean_attained::{greatest_mean_at, least_mean_at, lowest_mean};
 pub use mean_laws::{
     ends_of_means_are_attained, guesses_of_means_lie_between, means_are_no_wider_than_sums,
     means_hold_the_truth,
 };
-pub use means::mean_bounds;
+pub use means::{mean_bounds, with_values};
 pub use split::Split;
