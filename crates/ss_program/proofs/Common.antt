@@ -38,10 +38,10 @@ pub use Rattle.ss_catalog.specs.declared.query.Query.{Query}
 pub use Rattle.ss_catalog.specs.declared.refusal.Refusal.{Refusal}
 pub use Rattle.ss_catalog.specs.declared.refusal.Refusal.TheVariants.{Unknown, Range}
 pub use Rattle.ss_catalog.specs.declared.series.Series.{Series}
-pub use Rattle.ss_certify.proofs.SharpLemmas.{All-named, HasCuts-seen_of, MayBeTrue-answer, end_asked-answer}
+pub use Rattle.ss_certify.proofs.SharpLemmas.{All-named, HasCuts-seen_of, MayBeAnswer-answer, end_asked-answer}
 pub use Rattle.ss_certify.specs.Called.{evidence_in, ChecksEvidence}
-pub use Rattle.ss_certify.specs.Evidence.{base_of, certified_sum, IsEvidence, end_asked}
-pub use Rattle.ss_certify.specs.Made.{certificate_of, evidence_of}
+pub use Rattle.ss_certify.specs.Evidence.{answer_from, with_certified, IsEvidence, end_asked}
+pub use Rattle.ss_certify.specs.Made.{certificates_of, evidence_of}
 pub use Rattle.ss_certify.specs.Told.{head_of, side_of, told}
 pub use Rattle.ss_certify.specs.declared.evidence.Evidence.{Evidence}
 pub use Rattle.ss_command.proofs.SayLemmas.{meant-sayable}

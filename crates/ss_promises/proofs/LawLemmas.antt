@@ -1,7 +1,7 @@
 -- What a session makes of a history: another one, over which its queries are answered.
 use Rattle.ss_program.proofs.Common.{◌≡◌, ◌∙◌, ◌++◌, List, [], ◌∷◌, ℕ, ℤ, map, Option, Some, None, IsSome, true, Result, Ok, Err, refl, sym, ap, Bool}
 use Rattle.ss_program.proofs.Common.{append-nil, Event, Create, Value, Open, Close, Drop, is_certified, is_guess, End, Kind, Query, Refusal, Series}
-use Rattle.ss_program.proofs.Common.{row_count, row_start, rows_of, MayBeTrue-answer, end_asked-answer, evidence_in, told, Evidence, meant-sayable, meaning}
+use Rattle.ss_program.proofs.Common.{row_count, row_start, rows_of, MayBeAnswer-answer, end_asked-answer, evidence_in, told, Evidence, meant-sayable, meaning}
 use Rattle.ss_program.proofs.Common.{IsSayable, Command, Do, Ask, Certify, answer-ends, answer-exact, answer-holds, answer-kind, answer-known, IsHistory_push}
 use Rattle.ss_program.proofs.Common.{IsState-state, row-answered, HasEnds, HoldsPresence, HoldsTruth, IsExactOutcome, IsOfKind, interval_query, outcome_of}
 use Rattle.ss_program.proofs.Common.{refuses_query, split_by, CanBeSaid, added, marked_of, values_of, IsHistory, refuses, AnswersRow, refuses_series, state}
@@ -155,15 +155,15 @@ answered-series history line series whole means none =
 -- the evidence of a stream after a history is sharp
 sharp-evidence : (history : History) (query : Query) (end : End) (w : Evidence) (outcome : Outcome) → IsHistory history → is_certified query.kind ≡ true →
     evidence_in (state history) query end ≡ Some w → outcome_of (state history) query ≡ Some outcome → IsSharp history query end w
-sharp-evidence history query end w outcome whole adds has answered =
+sharp-evidence history query end w outcome whole certified has answered =
     let streams = state history in
-    let right = evidence-right streams query end w (IsState-state history whole) adds has in
+    let right = evidence-right streams query end w (IsState-state history whole) certified has in
     record {
       stream = right.0;
       outcome = outcome;
       named = right.1;
       evidence = right.3;
-      attained = MayBeTrue-answer streams query right.0 end w right.1 right.3 history right.0 whole refl right.1;
+      attained = MayBeAnswer-answer streams query right.0 end w right.1 right.3 history right.0 whole refl right.1;
       answered = answered;
       asked = end_asked-answer streams query right.0 end w right.1 right.3 right.2 outcome answered;
     }

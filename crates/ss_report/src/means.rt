@@ -1,5 +1,6 @@
 // The text of a mean.
-ghost use Rattle.std.specs.Prelude.{◌≡◌, ◌+◌, ◌≤◌, [], length};
+ghost use Rattle.std.specs.Prelude.{◌≡◌, ◌+◌, ◌≤◌, ◌++◌, [], codes, length};
+ghost use Rattle.std.specs.Fmt.{decimal};
 ghost use Rattle.ss_command.specs.Printed.{spaced, with_word};
 ghost use Rattle.ss_report.specs.MeanText.{fraction_word, mean_end_word, mean_guess_words, mean_words};
 ghost use Rattle.ss_report.specs.Text.{reply_line};
@@ -10,6 +11,16 @@ use ss_bounds::{Fraction, Mean, MeanGuess};
 use ss_command::{put_number, put_sum};
 use ss_fields::print_u64;
 
+// Adds what a fraction is over.
+fn put_under(under: u64, out: &mut ArrayString<256>)
+    requires { length out.old.bytes + 41 ≤ 256 }
+    ensures bytes { out.new.bytes ≡ out.old.bytes ++ codes "/" ++ decimal under }
+    ensures short { length out.new.bytes ≤ length out.old.bytes + 21 }
+{
+    out.push_str("/");
+    print_u64(under, out);
+}
+
 // Adds a fraction.
 fn put_fraction(fraction: Fraction, out: &mut ArrayString<256>)
     requires { length out.old.bytes + 82 ≤ 256 }
@@ -18,8 +29,7 @@ fn put_fraction(fraction: Fraction, out: &mut ArrayString<256>)
 {
     put_sum(fraction.over, out);
     if fraction.under != 1 {
-        out.push_str("/");
-        print_u64(fraction.under, out);
+        put_under(fraction.under, out);
     }
 }
 
