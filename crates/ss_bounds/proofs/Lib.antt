@@ -29,3 +29,5 @@ pub mod MeanWidthLemmas
 pub mod ReachedLemmas
 pub mod MeanAttainedLemmas
 mod MeanAttainedRows
+pub mod MeanGuessLemmas
+pub mod MeanGuessRows

@@ -37,7 +37,8 @@ pub use lines::{high_sum, low_sum};
 pub use mean::{Mean, MeanGuess};
 pub use mean_attained::{greatest_mean_at, least_mean_at, lowest_mean};
 pub use mean_laws::{
-    ends_of_means_are_attained, means_are_no_wider_than_sums, means_hold_the_truth,
+    ends_of_means_are_attained, guesses_of_means_lie_between, means_are_no_wider_than_sums,
+    means_hold_the_truth,
 };
 pub use means::{mean_bounds, with_values};
 pub use split::Split;

@@ -1,7 +1,8 @@
 // The likeliest mean of the values in a range.
-ghost use Rattle.std.specs.Prelude.{◌≡◌, ◌^◌, ◌<◌, ◌≤◌, pos};
+ghost use Rattle.std.specs.Prelude.{◌≡◌, ◌^◌, ◌<◌, ◌≤◌, pos, IfSome};
 ghost use Rattle.ss_base.specs.Near.{IsNear};
 ghost use Rattle.ss_bounds.specs.Extremes.{listed};
+ghost use Rattle.ss_bounds.specs.Split.{IsSplit};
 ghost use Rattle.ss_bounds.specs.MeanGuess.{brought, mean_guess, quotient_guess};
 
 use crate::fraction::{Fraction, at_most};
@@ -17,7 +18,7 @@ pub fn mean_guess(known: Fraction, left: Option<Split>, right: Option<Split>) ->
     requires few { known.under ≤ 2 ^ 62 }
     ensures { result ≡ mean_guess known (listed left right) }
 {
-    let guess = lowest(quotient_guess(known, left, right));
+    let guess = lowest(quotient_guess(known, &left, &right));
     match mean_bounds(known, left, right) {
         Mean::Nothing => MeanGuess::Nothing,
         Mean::Sure { lo, hi } => MeanGuess::Sure {
@@ -34,16 +35,27 @@ pub fn mean_guess(known: Fraction, left: Option<Split>, right: Option<Split>) ->
 }
 
 // The guess of the sum over the guess of the count, from 1 on.
-fn quotient_guess(known: Fraction, left: Option<Split>, right: Option<Split>) -> Fraction
+fn quotient_guess(known: Fraction, left: &Option<Split>, right: &Option<Split>) -> Fraction
     requires near { IsNear known.over }
     requires few { known.under ≤ 2 ^ 62 }
-    ensures value { result ≡ quotient_guess known (listed left right) }
+    ensures value { result ≡ quotient_guess known (listed left.now right.now) }
     ensures some { 0 < result.under }
 {
-    let count = count_guess(i128::from(known.under), left, right);
+    look(left);
+    look(right);
+    let count = count_guess(i128::from(known.under), *left, *right);
     Fraction {
-        over: sum_guess(known.over, left, right),
+        over: sum_guess(known.over, *left, *right),
         under: (count as u64).max(1),
+    }
+}
+
+// Says for the proof alone what holds of each split window.
+fn look(split: &Option<Split>)
+    ensures { IfSome split.now IsSplit }
+{
+    if let Some(split) = split {
+        let _count = split.count;
     }
 }
 

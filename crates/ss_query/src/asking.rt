@@ -9,14 +9,15 @@ ghost use Rattle.ss_model.specs.Marks.{lies_free};
 ghost use Rattle.ss_base.specs.declared.limits.TheConstants.{MOST_VALUES};
 ghost use Rattle.ss_query.specs.Asked.{Follows, HasCuts, IsCut, IsFewMarked, counts_of, counts_seen, cut_of, figures_of, joined_with, seen_count};
 ghost use Rattle.ss_base.specs.Near.{IsNear};
-ghost use Rattle.ss_query.specs.Asked.{seen_sum, left_with, values_seen, marks_seen, outcome_seen, right_with, seen_with, sums_of, sums_seen, whole_with};
+ghost use Rattle.ss_query.specs.Asked.{seen_sum, left_with, marks_seen, outcome_seen, right_with, seen_with, sums_of, sums_seen, whole_with};
 
 use crate::Cut;
+use crate::means::{mean_guessed, mean_seen};
 use crate::presence::{presence_of_marks, presence_with};
 use ss_base::{LAST_TIME, MOST_VALUES, Steps};
 use ss_bounds::{
-    Fraction, Split, count_bounds, count_guess, greater, lesser, max_bounds, mean_bounds, mean_guess,
-    min_bounds, sum_bounds, sum_guess,
+    Split, count_bounds, count_guess, greater, lesser, max_bounds, min_bounds, sum_bounds,
+    sum_guess,
 };
 use ss_catalog::{Kind, Query};
 use ss_landmarks::{Landmarks, Tally};
@@ -270,7 +271,7 @@ pub fn with_window<S: Ledger>(
 }
 
 // How many values are known: those of the windows that lie whole in the range, and those of landmarks.
-fn known_count(whole: Option<Summary>, marked: Tally) -> u64
+pub fn known_count(whole: Option<Summary>, marked: Tally) -> u64
     requires { IsFewMarked marked }
     ensures value { result ≡ seen_count whole marked }
     ensures few { result ≤ 2 * MOST_VALUES }
@@ -282,7 +283,7 @@ fn known_count(whole: Option<Summary>, marked: Tally) -> u64
 }
 
 // What the sum of these is.
-fn known_sum(whole: Option<Summary>, marked: Tally) -> i128
+pub fn known_sum(whole: Option<Summary>, marked: Tally) -> i128
     requires { IsFewMarked marked }
     ensures value { result ≡ seen_sum whole marked }
     ensures near { IsNear result }
@@ -321,7 +322,7 @@ fn sums_of(cut: Option<Cut>) -> (i128, i128)
 }
 
 // Its figures, where there is one.
-fn figures_of(cut: Option<Cut>) -> Option<Split>
+pub fn figures_of(cut: Option<Cut>) -> Option<Split>
     ensures { result ≡ figures_of cut }
 {
     match cut {
@@ -424,41 +425,6 @@ fn greatest_seen(seen: Seen) -> Outcome
     let left = figures_of(seen.left);
     let right = figures_of(seen.right);
     Outcome::Max(max_bounds(greater(whole, seen.marked.greatest), left, right))
-}
-
-// The sum and the count of what is known.
-fn values_seen(seen: Seen) -> Fraction
-    requires { IsFewMarked seen.marked }
-    ensures value { result ≡ values_seen seen }
-    ensures near { IsNear result.over }
-    ensures few { result.under ≤ 2 ^ 62 }
-{
-    Fraction {
-        over: known_sum(seen.whole, seen.marked),
-        under: known_count(seen.whole, seen.marked),
-    }
-}
-
-// What their mean is.
-fn mean_seen(seen: Seen) -> Outcome
-    requires { IsFewMarked seen.marked }
-    ensures { result ≡ outcome_seen Kind.Mean seen }
-{
-    let known = values_seen(seen);
-    let left = figures_of(seen.left);
-    let right = figures_of(seen.right);
-    Outcome::Mean(mean_bounds(known, left, right))
-}
-
-// What it is, and the likeliest one.
-fn mean_guessed(seen: Seen) -> Outcome
-    requires { IsFewMarked seen.marked }
-    ensures { result ≡ outcome_seen Kind.MeanGuess seen }
-{
-    let known = values_seen(seen);
-    let left = figures_of(seen.left);
-    let right = figures_of(seen.right);
-    Outcome::MeanEstimate(mean_guess(known, left, right))
 }
 
 /// What is answered from what is known.
