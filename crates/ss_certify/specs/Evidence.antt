@@ -18,7 +18,7 @@ use Rattle.ss_query.specs.declared.asking.Seen.{Seen}
 use Rattle.ss_query.specs.declared.cut.Cut.{Cut}
 use Rattle.ss_certify.specs.Checked.{Certifies, inside_of}
 use Rattle.ss_certify.specs.declared.evidence.Answer.{Answer}
-use Rattle.ss_certify.specs.declared.evidence.Answer.TheVariants.{Count, Sum, Mean}
+use Rattle.ss_certify.specs.declared.evidence.Answer.TheVariants as answers
 use Rattle.ss_certify.specs.declared.evidence.Cert.{Cert}
 use Rattle.ss_certify.specs.declared.evidence.Evidence.{Evidence}
 
@@ -37,9 +37,9 @@ with_certified known (c ∷ certs) = with_certified (with_values known (certifie
 
 -- what is answered of some values, by their sum and count: their sum, their mean or else how many they are
 abbrev pub answer_from : Kind → Fraction → Answer
-answer_from kinds.Sum values = Sum values.over
-answer_from kinds.Mean values = Mean (lowest_mean values)
-answer_from kind values = Count values.under
+answer_from kinds.Sum values = answers.Sum values.over
+answer_from kinds.Mean values = answers.Mean (lowest_mean values)
+answer_from kind values = answers.Count values.under
 
 -- an end of what is known of a mean, if there may be one
 abbrev pub mean_end : End → Mean → Option Fraction
@@ -51,14 +51,14 @@ mean_end Hi (means.Maybe lo hi) = Some hi
 
 -- an end of what is answered; nothing where there are no certificates of it
 abbrev pub end_asked : End → Outcome → Option Answer
-end_asked Lo (outcomes.Count lo hi) = Some (Count lo)
-end_asked Hi (outcomes.Count lo hi) = Some (Count hi)
-end_asked Lo (outcomes.Sum lo hi) = Some (Sum lo)
-end_asked Hi (outcomes.Sum lo hi) = Some (Sum hi)
-end_asked end (outcomes.Mean known) = Some (Mean (mean_end end known))
+end_asked Lo (outcomes.Count lo hi) = Some (answers.Count lo)
+end_asked Hi (outcomes.Count lo hi) = Some (answers.Count hi)
+end_asked Lo (outcomes.Sum lo hi) = Some (answers.Sum lo)
+end_asked Hi (outcomes.Sum lo hi) = Some (answers.Sum hi)
+end_asked end (outcomes.Mean known) = Some (answers.Mean (mean_end end known))
 end_asked end (outcomes.Min extreme) = None
 end_asked end (outcomes.Max extreme) = None
-end_asked end (outcomes.Has presence) = None
+end_asked end (outcomes.Has _) = None
 end_asked end (outcomes.Estimate lo guess hi) = None
 end_asked end (outcomes.MeanEstimate guess) = None
 

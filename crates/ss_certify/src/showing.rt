@@ -76,7 +76,8 @@ fn end_asked(end: End, outcome: Outcome) -> Option<Answer>
         (End::Hi, Outcome::Count { hi, .. }) => Some(Answer::Count(hi)),
         (End::Lo, Outcome::Sum { lo, .. }) => Some(Answer::Sum(lo)),
         (End::Hi, Outcome::Sum { hi, .. }) => Some(Answer::Sum(hi)),
-        (end, Outcome::Mean(known)) => Some(Answer::Mean(mean_end(end, known))),
+        (End::Lo, Outcome::Mean(known)) => Some(Answer::Mean(mean_end(End::Lo, known))),
+        (End::Hi, Outcome::Mean(known)) => Some(Answer::Mean(mean_end(End::Hi, known))),
         _ => None,
     }
 }
