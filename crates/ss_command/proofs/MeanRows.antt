@@ -1,5 +1,5 @@
 -- Worked rows of the commands that ask for a mean.
-use Rattle.std.proofs.Common.{◌≡◌, [], ◌∷◌, map, Ok, Err, Some, Option, Result, refl}
+use Rattle.std.proofs.Common.{◌≡◌, ℕ, [], ◌∷◌, map, Ok, Err, Some, Option, Result, refl}
 use Rattle.std.specs.Prelude.{codes}
 use Rattle.std.specs.Fmt.{digits}
 use Rattle.ss_fields.specs.Words.{is_number, number_of, number_up_to, signed_of}

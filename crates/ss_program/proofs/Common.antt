@@ -27,7 +27,7 @@ pub use Rattle.ss_bounds.specs.Split.{SplitFigures, greatest_count, least_count,
 pub use Rattle.ss_catalog.specs.Events.{event_name}
 pub use Rattle.ss_catalog.specs.Names.{same_name, is_name}
 pub use Rattle.ss_catalog.specs.Params.{exp, step_number}
-pub use Rattle.ss_catalog.specs.Queries.{adds_up, is_guess, series_verb}
+pub use Rattle.ss_catalog.specs.Queries.{is_certified, is_guess, series_verb}
 pub use Rattle.ss_catalog.specs.Series.{row_query, row_start, rows_of, row_count, whole_query, numbers_from}
 pub use Rattle.ss_catalog.specs.declared.event.Event.{Event}
 pub use Rattle.ss_catalog.specs.declared.event.Event.TheVariants.{Create, Value, Open, Close, Drop}

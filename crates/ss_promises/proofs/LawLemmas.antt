@@ -1,6 +1,6 @@
 -- What a session makes of a history: another one, over which its queries are answered.
 use Rattle.ss_program.proofs.Common.{◌≡◌, ◌∙◌, ◌++◌, List, [], ◌∷◌, ℕ, ℤ, map, Option, Some, None, IsSome, true, Result, Ok, Err, refl, sym, ap, Bool}
-use Rattle.ss_program.proofs.Common.{append-nil, Event, Create, Value, Open, Close, Drop, adds_up, is_guess, End, Kind, Query, Refusal, Series}
+use Rattle.ss_program.proofs.Common.{append-nil, Event, Create, Value, Open, Close, Drop, is_certified, is_guess, End, Kind, Query, Refusal, Series}
 use Rattle.ss_program.proofs.Common.{row_count, row_start, rows_of, MayBeTrue-answer, end_asked-answer, evidence_in, told, Evidence, meant-sayable, meaning}
 use Rattle.ss_program.proofs.Common.{IsSayable, Command, Do, Ask, Certify, answer-ends, answer-exact, answer-holds, answer-kind, answer-known, IsHistory_push}
 use Rattle.ss_program.proofs.Common.{IsState-state, row-answered, HasEnds, HoldsPresence, HoldsTruth, IsExactOutcome, IsOfKind, interval_query, outcome_of}
@@ -153,7 +153,7 @@ answered-series history line series whole means none =
     )
 
 -- the evidence of a stream after a history is sharp
-sharp-evidence : (history : History) (query : Query) (end : End) (w : Evidence) (outcome : Outcome) → IsHistory history → adds_up query.kind ≡ true →
+sharp-evidence : (history : History) (query : Query) (end : End) (w : Evidence) (outcome : Outcome) → IsHistory history → is_certified query.kind ≡ true →
     evidence_in (state history) query end ≡ Some w → outcome_of (state history) query ≡ Some outcome → IsSharp history query end w
 sharp-evidence history query end w outcome whole adds has answered =
     let streams = state history in
