@@ -104,6 +104,10 @@ attaining-few kind end known s rest split others =
     let most = (attaining-between kind end known s rest split others).1 in
     omega arith
 
+pub AreAllSplit-other : (t : Option SplitFigures) → IfSome t IsSplit → AreAllSplit (listed None t)
+AreAllSplit-other None split = tt
+AreAllSplit-other (Some t) split = (split, tt)
+
 -- a certificate with values as the window may hold them is one
 module _ (cut : Cut) (x : ℕ) (sum : ℤ) (split : IsSplit cut.split) (can : CanBeParted cut.split x sum) where
   pub inside-fills : Fills x sum cut.split.min cut.split.max (fill x sum cut.split.min cut.split.max)

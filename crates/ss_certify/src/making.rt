@@ -1,8 +1,8 @@
 // The evidence for an end of an answer, from what is known of a stream.
-ghost use Rattle.std.specs.Prelude.{◌≡◌, ◌≤◌, ◌^◌, [], ◌∷◌, All, None, length, unsigned_abs};
+ghost use Rattle.std.specs.Prelude.{◌≡◌, ◌≤◌, ◌^◌, [], ◌∷◌, All, IfSome, None, unsigned_abs};
 ghost use Rattle.ss_bounds.specs.Extremes.{listed};
-ghost use Rattle.ss_bounds.specs.Guess.{AreAllSplit};
 ghost use Rattle.ss_bounds.specs.Parted.{CanBeParted};
+ghost use Rattle.ss_bounds.specs.Split.{IsSplit};
 ghost use Rattle.ss_query.specs.Asked.{IsFewMarked};
 ghost use Rattle.ss_certify.specs.Checked.{HasFewInside};
 ghost use Rattle.ss_certify.specs.Made.{attaining, certificate_of, certificate_with, certificates_of, evidence_of, inside_sum};
@@ -23,8 +23,7 @@ use ss_query::{Cut, Seen};
 fn attaining(kind: Kind, end: End, known: Fraction, split: Split, other: Option<Split>) -> u64
     requires near { unsigned_abs known.over ≤ 2 ^ 106 }
     requires few { known.under ≤ 2 ^ 42 }
-    ensures value { result ≡ attaining kind end known split (listed None other) }
-    ensures others { AreAllSplit (listed None other) }
+    ensures { result ≡ attaining kind end known split (listed None other) }
 {
     let (fewest, most) = count_bounds(split);
     match (kind, end) {
@@ -65,6 +64,15 @@ fn certificate_with(cut: Cut, x: u64, sum: i128) -> Cert
     }
 }
 
+// Says for the proof alone what holds of a window that may be there.
+fn look(split: &Option<Split>)
+    ensures { IfSome split.now IsSplit }
+{
+    if let Some(split) = split {
+        let _count = split.count;
+    }
+}
+
 // The certificate of a window that the range splits: with the least number of its values in the range that attains this end, beside what
 // is known and some values of the other window.
 fn certificate(kind: Kind, end: End, known: Fraction, cut: Cut, other: Option<Split>) -> Cert
@@ -76,6 +84,7 @@ fn certificate(kind: Kind, end: End, known: Fraction, cut: Cut, other: Option<Sp
     let split = cut.split;
     // Read for the proof alone: with a field comes what holds of each split.
     let _count = split.count;
+    look(&other);
     let x = attaining(kind, end, known, split, other);
     let sum = sum_inside(kind, end, split, x);
     certificate_with(cut, x, sum)
