@@ -1,8 +1,7 @@
 -- The ends of a mean are fractions in order, a guess of it lies between them, and it is left open whether there is one only by one window alone.
 use Rattle.std.specs.Prelude.{◌≡◌, ℕ, zero, suc, ◌+◌, ◌-◌, ◌<◌, ◌≤◌, ◌==◌, nat_le, Bool, true, false, if◌then◌else◌, IfSome, unsigned_abs, ◌^◌}
-use Rattle.std.specs.Prelude.{ℤ, pos, ◌+ℤ◌, ◌*ℤ◌, ◌≤ℤ◌, List, [], ◌∷◌, map, Option, None, Some, sum_by}
+use Rattle.std.specs.Prelude.{ℤ, pos, ◌+ℤ◌, ◌*ℤ◌, ◌≤ℤ◌, List, [], ◌∷◌, Option, None, Some, sum_by}
 use Rattle.std.specs.Option.{option_map}
-use Rattle.std.specs.Int.{int_max, int_min}
 use Rattle.std.proofs.Common.{ap, arith, refl, subst, sym, ◌∙◌}
 use Rattle.std.proofs.lemmas.Bool.Decides.{nat_tests}
 use Rattle.std.proofs.lemmas.Int.{ints, clamps}
@@ -11,18 +10,17 @@ use Rattle.ss_summary.proofs.Bounds.{times-le-times}
 use Rattle.ss_bounds.specs.declared.fraction.Fraction.{Fraction}
 use Rattle.ss_bounds.specs.declared.mean.Mean.{Mean}
 use Rattle.ss_bounds.specs.declared.mean.Mean.TheVariants.{Nothing, Sure, Maybe}
-use Rattle.ss_bounds.specs.declared.mean.MeanGuess.{MeanGuess}
 use Rattle.ss_bounds.specs.declared.mean.MeanGuess.TheVariants as guesses
 use Rattle.ss_bounds.specs.Fractions.{IsAtMost, IsSame, at_most, at_least, lowest}
 use Rattle.ss_bounds.specs.Extremes.{listed}
 use Rattle.ss_bounds.specs.Guess.{AreAllSplit, count_guess, whole}
-use Rattle.ss_bounds.specs.Means.{AddsUpTo, best_mean, best_of, better, mean_from, mean_interval, mean_of, so_many, with_values}
-use Rattle.ss_bounds.specs.MeanGuess.{HoldsMeanGuess, LiesBetween, brought, mean_guess, quotient_guess, unguessed_mean, with_guess}
+use Rattle.ss_bounds.specs.Means.{AddsUpTo, best_mean, best_of, better, mean_from, mean_interval, so_many, with_values}
+use Rattle.ss_bounds.specs.MeanGuess.{HoldsMeanGuess, LiesBetween, mean_guess, quotient_guess, unguessed_mean, with_guess}
 use Rattle.ss_bounds.specs.MeanTruth.{AreAttained, EachMayHave, HoldsMean, all_together, figures_alone}
 use Rattle.ss_bounds.specs.Split.{IsSplit, SplitFigures, greatest_count, least_count, low_sum, high_sum}
 use Rattle.ss_bounds.proofs.AttainedLemmas.{greatest_count-few}
 use Rattle.ss_bounds.proofs.BestLemmas.{AreAllSplit-ordered, IsBest, IsBest-best_mean}
-use Rattle.ss_bounds.proofs.FractionLemmas.{IsAtMost-IsSame, IsAtMost-refl, IsAtMost-trans, IsOrder-at_least, IsOrder-at_most, IsSame-both, IsSame-sym}
+use Rattle.ss_bounds.proofs.FractionLemmas.{IsAtMost-refl, IsAtMost-trans, IsOrder-at_least, IsOrder-at_most, IsSame-both}
 use Rattle.ss_bounds.proofs.GuessLemmas.{count_guess-within}
 use Rattle.ss_bounds.proofs.LowestLemmas.{IsLowest-lowest, IsLowest-unique, lowest-same}
 use Rattle.ss_bounds.proofs.MeanTruthLemmas.{mean_interval-AreAttained, mean_interval-HoldsMean, mean_interval-known}

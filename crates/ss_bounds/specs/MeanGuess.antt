@@ -1,5 +1,5 @@
 -- The likeliest mean of the values in a range: the likeliest sum over the likeliest count, brought between the ends.
-use Rattle.std.specs.Prelude.{ℕ, max, Bool, if◌then◌else◌, ℤ, pos, unsigned_abs, List}
+use Rattle.std.specs.Prelude.{max, if◌then◌else◌, pos, unsigned_abs, List}
 use Rattle.ss_bounds.specs.declared.fraction.Fraction.{Fraction}
 use Rattle.ss_bounds.specs.declared.mean.Mean.{Mean}
 use Rattle.ss_bounds.specs.declared.mean.Mean.TheVariants as means

@@ -1,5 +1,5 @@
 -- Worked rows, each computed.
-use Rattle.std.proofs.Common.{◌≡◌, ℕ, ◌+◌, refl, ◌^◌, pos, List, [], ◌∷◌, ◌++◌, map, true, false, Some, None, arith, codes}
+use Rattle.std.proofs.Common.{◌≡◌, ℕ, ◌+◌, refl, pos, List, [], ◌∷◌, ◌++◌, map, true, false, Some, None, arith, codes}
 use Rattle.ss_catalog.specs.Catalog.{id_of, without_name}
 use Rattle.ss_catalog.specs.Events.{IsInTime, event_name}
 use Rattle.ss_catalog.specs.Names.{is_name}

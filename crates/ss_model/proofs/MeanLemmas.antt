@@ -1,7 +1,7 @@
 -- What is known of a mean holds the truth, for any windows of some values, and is one number where the range splits none.
-use Rattle.ss_model.proofs.Common.{ℤ, ◌+ℤ◌, Option, ap, arith, refl, sym, ◌∙◌, subst, inl, inr, ints, cases_lt, length-append}
-use Rattle.ss_model.proofs.Common.{SplitFigures, asked, total, Point, split_windows, RiseAtFree, Window}
-use Rattle.std.specs.Prelude.{◌≡◌, ℕ, ◌+◌, ◌<◌, Bool, List, [], ◌∷◌, length, map}
+use Rattle.ss_model.proofs.Common.{ℤ, ap, arith, refl, sym, ◌∙◌, subst, inl, inr, ints, cases_lt, length-append}
+use Rattle.ss_model.proofs.Common.{SplitFigures, asked, Point, split_windows, RiseAtFree, Window}
+use Rattle.std.specs.Prelude.{◌≡◌, ℕ, Bool, List, [], ◌∷◌, map}
 use Rattle.ss_bounds.specs.declared.fraction.Fraction.{Fraction}
 use Rattle.ss_bounds.specs.MeanGuess.{mean_guess}
 use Rattle.ss_bounds.specs.MeanTruth.{EachMayHave, HoldsMean, all_together, figures_alone}
