@@ -2,7 +2,7 @@
 use Rattle.ss_model.proofs.Common.{ℤ, ◌+ℤ◌, ap, arith, refl, sym, ◌∙◌, subst, inl, inr, ints, cases_Bool, cases_lt, nat_tests, and_parts, sum_by-cons, list_all}
 use Rattle.ss_model.proofs.Common.{IsTrue, Landmark, Point, SplitFigures, asked, is_free, is_split, is_whole, lies_free, marked_values, split_figures}
 use Rattle.ss_model.proofs.Common.{split_windows, total, IsPossible, IsStream, StandFrom, Stream, Window}
-use Rattle.std.specs.Prelude.{◌≡◌, ◌⊎◌, ℕ, ◌+◌, ◌<◌, ◌≤◌, Bool, true, false, ◌&&◌, not, nat_le, nat_lt, if◌then◌else◌, List, [], ◌∷◌, length, map, pos, sum_by}
+use Rattle.std.specs.Prelude.{◌≡◌, ◌⊎◌, ℕ, ◌+◌, ◌<◌, ◌≤◌, Bool, true, false, ◌&&◌, ◌||◌, not, nat_le, nat_lt, if◌then◌else◌, List, [], ◌∷◌, length, map, pos, sum_by}
 use Rattle.std.specs.List.{filter}
 use Rattle.ss_bounds.specs.declared.fraction.Fraction.{Fraction}
 use Rattle.ss_bounds.specs.declared.mean.Mean.TheVariants.{Maybe}
@@ -21,7 +21,11 @@ use Rattle.ss_model.proofs.SplitLemmas.{AreAllSplit-stream, Lies, lies}
 ends-after : (from to first last : ℕ) → Lies from to first last → ends_in from to first last ≡ 0 → to < last
 ends-after from to first last place none = elim (cases_lt to last) [
   | inl after ↦ after
-  | inr in_range ↦ (let one = place.ends in let is : lies_in from to last ≡ true = grind (arith, nat_tests) in absurd (rw is at none in omega arith))
+  | inr in_range ↦
+      (let one = place.ends in
+      let is : lies_in from to last ≡ true = grind (arith, nat_tests) in
+      let none = rw is at none in
+      absurd (omega arith))
 ]
 
 -- a window that begins after the range isn't split by it

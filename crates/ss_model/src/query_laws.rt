@@ -1,6 +1,8 @@
 // Laws on the answers to queries, each the contract of a function that does nothing.
 ghost use Rattle.std.specs.Prelude.{◌≡◌, ◌↔◌, ℕ, ◌≤◌, Bool, ℤ, ◌≤ℤ◌, List, [], All, Contains, IsTrue};
 ghost use Rattle.ss_catalog.specs.declared.event.Event.{Event};
+ghost use Rattle.ss_bounds.specs.declared.fraction.Fraction.{Fraction};
+ghost use Rattle.ss_bounds.specs.declared.mean.Mean.TheVariants as means;
 ghost use Rattle.ss_bounds.specs.MeanTruth.{HoldsMean};
 ghost use Rattle.ss_bounds.specs.Truth.{HoldsExtreme};
 ghost use Rattle.ss_landmarks.specs.Free.{is_free};
@@ -10,9 +12,11 @@ ghost use Rattle.ss_model.specs.Interval.{interval_of_count, interval_of_greates
 ghost use Rattle.ss_model.specs.Interval.{presence_of, split_windows};
 ghost use Rattle.ss_model.specs.History.{marked_of, values_of, Happened};
 ghost use Rattle.ss_model.specs.Marks.{marked_values};
+ghost use Rattle.ss_model.specs.OpenMeans.{IsOpenByOne};
 ghost use Rattle.ss_model.specs.Refusals.{IsHistory};
+ghost use Rattle.ss_model.specs.Standing.{IsStream};
 ghost use Rattle.ss_targets.specs.Rule.{Rule};
-ghost use Rattle.ss_model.specs.State.{state};
+ghost use Rattle.ss_model.specs.State.{Stream, state};
 ghost use Rattle.ss_model.specs.Truth.{is_one_of, RiseAtFree, true_count, true_greatest, true_least, true_presence, true_sum, true_values};
 ghost use Rattle.ss_model.specs.Windows.{windows};
 ghost use Rattle.ss_model.specs.declared.types.Window.{Window};
@@ -74,6 +78,14 @@ pub fn unsplit_answers_are_exact()
         IsExact (interval_of_greatest free from to ws marked) }
     ensures mean { (free : ℕ → Bool) (from to : ℕ) (ws : List Window) (marked : List Point) → split_windows free from to ws ≡ [] →
         IsExactMean (interval_of_mean free from to ws marked) }
+{}
+
+/// It is left open whether there is a mean by one window alone: the range splits it and no other, and no value is known beside it. The ends
+/// are this window's least and greatest value.
+pub fn one_window_leaves_means_open()
+    ensures { (s : Stream) (from to : ℕ) (lo hi : Fraction) → IsStream s →
+        interval_of_mean (is_free s.landmarks) from to s.windows (marked_values s.landmarks) ≡ means.Maybe lo hi →
+        IsOpenByOne from to s.windows (marked_values s.landmarks) lo hi }
 {}
 
 /// The truth of whether a value is there is true exactly where the values that are asked for contain it.
