@@ -81,4 +81,4 @@ def test_all_that_is_raised_is_named() -> None:
     for name, kind in vars(errors).items():
         if isinstance(kind, type) and issubclass(kind, errors.SummaryStoreError) \
                 and kind is not errors.SummaryStoreError:
-            assert f"`{name}`" in TEXT, name
+            assert f"`{name}`" in (HOME / "REFERENCE.md").read_text(encoding="utf-8"), name

@@ -26,8 +26,9 @@ pub mod MeanTruthLemmas
 pub mod MeanRows
 pub mod MeanTruthRows
 pub mod MeanWidthLemmas
+pub mod MeanGuessLemmas
+pub mod MeanGuessRows
 pub mod ReachedLemmas
 pub mod MeanAttainedLemmas
 mod MeanAttainedRows
-pub mod MeanGuessLemmas
-pub mod MeanGuessRows
+
