@@ -31,4 +31,3 @@ pub mod MeanGuessRows
 pub mod ReachedLemmas
 pub mod MeanAttainedLemmas
 mod MeanAttainedRows
-
