@@ -24,12 +24,12 @@ use Rattle.ss_bounds.proofs.LowestLemmas.{lowest-same}
 use Rattle.ss_bounds.proofs.StraightLemmas.{IsStraight-apart}
 
 -- what is reached from some known values is so from others, with the same ones besides
-record IsShift (sum : SplitFigures → ℕ → ℤ) (known : Fraction) (splits : List SplitFigures) (m : Fraction) : Type 0 where
+pub record IsShift (sum : SplitFigures → ℕ → ℤ) (known : Fraction) (splits : List SplitFigures) (m : Fraction) : Type 0 where
   pub rest : Fraction
   pub is : m ≡ with_values known rest
   pub reaches : (k : Fraction) → AddsUpTo sum k splits (with_values k rest)
 
-AddsUpTo-shift : (sum : SplitFigures → ℕ → ℤ) (known : Fraction) (splits : List SplitFigures) (m : Fraction)
+pub AddsUpTo-shift : (sum : SplitFigures → ℕ → ℤ) (known : Fraction) (splits : List SplitFigures) (m : Fraction)
     → AddsUpTo sum known splits m → IsShift sum known splits m
 AddsUpTo-shift sum known [] m is = record {
   rest = record { over = pos 0; under = 0 };
@@ -51,7 +51,7 @@ AddsUpTo-shift sum known (s ∷ splits) m (x, from, to, more) =
     }
 
 -- one of the corners meets a condition
-abbrev AtCorners : (Fraction → Type 0) → Corners → Type 0
+abbrev pub AtCorners : (Fraction → Type 0) → Corners → Type 0
 AtCorners Q c = ((Q c.fewest ⊎ Q c.some) ⊎ (Q c.before ⊎ Q c.after)) ⊎ Q c.most
 
 module _ {test : Fraction → Fraction → Bool} {Better : Fraction → Fraction → Type 0} (order : IsOrder test Better) where
@@ -234,7 +234,7 @@ AreSame-lowest (Some a) None same = absurd same
 AreSame-lowest (Some a) (Some b) same = ap Some (lowest-same a b same.0 same.1 same.2)
 
 -- what the code finds at the corners of either end
-found-at : (side : Side) {Better : Fraction → Fraction → Type 0} → IsOrder (order_of side) Better → (known : Fraction)
+pub found-at : (side : Side) {Better : Fraction → Fraction → Type 0} → IsOrder (order_of side) Better → (known : Fraction)
     → (s t : Option SplitFigures) (c d : Option Corners) → AreCornersOf side s c → AreCornersOf side t d
     → AreSame (best_mean (order_of side) (sum_at side) known (listed s t)) (best_of_corners side known c d)
 found-at side order known None None None None first second = none-found order (sum_at side) known

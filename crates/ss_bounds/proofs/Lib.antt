@@ -26,3 +26,8 @@ pub mod MeanTruthLemmas
 pub mod MeanRows
 pub mod MeanTruthRows
 pub mod MeanWidthLemmas
+pub mod MeanGuessLemmas
+pub mod MeanGuessRows
+pub mod ReachedLemmas
+pub mod MeanAttainedLemmas
+mod MeanAttainedRows

@@ -35,10 +35,10 @@ abbrev pub two : SplitFigures
 two = record { count = 2; sum = pos 11; min = pos 2; max = pos 9; ends = 1; inside = 5; outside = 4 }
 
 -- the values -4 and -1 at 10 and 14, and 0, 0 and 6 at 1, 5 and 9, where a landmark covers 2 to 4
-abbrev pair : ℕ → SplitFigures
+abbrev pub pair : ℕ → SplitFigures
 pair ends = record { count = 2; sum = negsuc 4; min = negsuc 3; max = negsuc 0; ends = ends; inside = 3; outside = 0 }
 
-abbrev three : ℕ → ℕ → ℕ → SplitFigures
+abbrev pub three : ℕ → ℕ → ℕ → SplitFigures
 three ends inside outside = record {
   count = 3;
   sum = pos 6;

@@ -108,7 +108,7 @@ mean_interval-HoldsMean known ws may =
 -- ---- each end is attained
 
 -- as many values are reached with other sums
-as-many : (sum other : SplitFigures → ℕ → ℤ) (known more : Fraction) (splits : List SplitFigures) (v : Fraction) → known.under ≡ more.under
+pub as-many : (sum other : SplitFigures → ℕ → ℤ) (known more : Fraction) (splits : List SplitFigures) (v : Fraction) → known.under ≡ more.under
     → AddsUpTo sum known splits v → (u : Fraction) × AddsUpTo other more splits u × (u.under ≡ v.under)
 as-many sum other known more [] v same is = (more, refl, sym same ∙ ap (λ (f : Fraction). f.under) is)
 as-many sum other known more (s ∷ splits) v same (x, from, to, reached) =

@@ -13,3 +13,5 @@ pub mod Fractions
 pub mod Means
 pub mod Corners
 pub mod MeanTruth
+pub mod MeanAttained
+pub mod MeanGuess

@@ -51,7 +51,7 @@ pub fn sides_of(split: Option<Split>) -> Sides
     }
 }
 
-fn corners_of(side: Side, split: Split) -> Corners
+pub fn corners_of(side: Side, split: Split) -> Corners
     ensures split { IsSplit split }
     ensures corners { AreCorners (sum_at side split) (least_count split) (greatest_count split) result }
     ensures small { AreSmall result }

@@ -9,9 +9,11 @@ mod extremes;
 mod fraction;
 mod guess;
 mod laws;
+mod likeliest;
 mod lines;
 mod lowest;
 mod mean;
+mod mean_attained;
 mod mean_laws;
 mod means;
 mod mixed;
@@ -30,9 +32,13 @@ pub use laws::{
     ends_of_sums_are_attained, extremes_hold_the_truth, free_times_are_parted, guesses_lie_between,
     several_hold_the_truth, split_windows_hold_the_truth, values_can_be_parted,
 };
-pub use mean::Mean;
+pub use likeliest::mean_guess;
+pub use lines::{high_sum, low_sum};
+pub use mean::{Mean, MeanGuess};
+pub use mean_attained::{greatest_mean_at, least_mean_at, lowest_mean};
 pub use mean_laws::{
-    ends_of_means_are_attained, means_are_no_wider_than_sums, means_hold_the_truth,
+    ends_of_means_are_attained, guesses_of_means_lie_between, means_are_no_wider_than_sums,
+    means_hold_the_truth,
 };
-pub use means::mean_bounds;
+pub use means::{mean_bounds, with_values};
 pub use split::Split;

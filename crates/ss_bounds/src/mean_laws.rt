@@ -5,6 +5,8 @@ ghost use Rattle.ss_bounds.specs.declared.fraction.Fraction.{Fraction};
 ghost use Rattle.ss_bounds.specs.declared.mean.Mean.TheVariants.{Sure};
 ghost use Rattle.ss_bounds.specs.Fractions.{IsLowest, lowest};
 ghost use Rattle.ss_bounds.specs.Guess.{AreAllSplit};
+ghost use Rattle.ss_bounds.specs.declared.mean.MeanGuess.TheVariants as guesses;
+ghost use Rattle.ss_bounds.specs.MeanGuess.{LiesBetween, mean_guess, unguessed_mean};
 ghost use Rattle.ss_bounds.specs.Means.{mean_interval};
 ghost use Rattle.ss_bounds.specs.MeanTruth.{AreAttained, EachMayHave, HoldsMean, IsNoWider, MayHave, all_together, counts_between, sums_between, figures_alone};
 ghost use Rattle.ss_bounds.specs.Split.{SplitFigures};
@@ -34,4 +36,12 @@ pub fn ends_of_means_are_attained()
 pub fn means_are_no_wider_than_sums()
     ensures { (known : Fraction) (splits : List SplitFigures) → AreAllSplit splits
         → IsNoWider (sums_between known splits) (counts_between known splits) (mean_interval known splits) }
+{}
+
+/// The likeliest mean lies between the ends, which are those of the interval (`ends`, `between`). Where no window is split it is the one
+/// number that these are (`known`).
+pub fn guesses_of_means_lie_between()
+    ensures ends { (known : Fraction) (splits : List SplitFigures) → unguessed_mean (mean_guess known splits) ≡ mean_interval known splits }
+    ensures between { (known : Fraction) (splits : List SplitFigures) → AreAllSplit splits → LiesBetween (mean_guess known splits) }
+    ensures known { (known : Fraction) → 0 < known.under → mean_guess known [] ≡ guesses.Sure (lowest known) (lowest known) (lowest known) }
 {}

@@ -63,7 +63,7 @@ fn mean_end(
 }
 
 // The same as some fraction.
-fn best_end(
+pub fn best_end(
     side: Side,
     known: Fraction,
     left: Option<Corners>,
@@ -85,7 +85,7 @@ fn best_end(
 }
 
 // The best mean of what is known with the values of one window, at its corners.
-fn end_of_one(side: Side, known: Fraction, window: Corners) -> Option<Fraction>
+pub fn end_of_one(side: Side, known: Fraction, window: Corners) -> Option<Fraction>
     requires wide { unsigned_abs known.over ≤ 2 ^ 121 }
     requires many { known.under ≤ 2 ^ 63 }
     requires window { AreSmall window }
@@ -133,7 +133,7 @@ fn end_of_two(side: Side, known: Fraction, left: Corners, right: Corners) -> Opt
 }
 
 // The sum and the count of some values and of others together.
-fn with_values(a: Fraction, b: Fraction) -> Fraction
+pub fn with_values(a: Fraction, b: Fraction) -> Fraction
     requires wide { unsigned_abs a.over ≤ 2 ^ 121 }
     requires many { a.under ≤ 2 ^ 63 }
     requires small { unsigned_abs b.over ≤ 2 ^ 107 }
@@ -147,7 +147,7 @@ fn with_values(a: Fraction, b: Fraction) -> Fraction
 }
 
 // The mean of some values, if there is any.
-fn mean_of(values: Fraction) -> Option<Fraction>
+pub fn mean_of(values: Fraction) -> Option<Fraction>
     ensures value { result ≡ mean_of values }
     ensures some { IfSome result (λ f. 0 < f.under) }
 {

@@ -1,10 +1,10 @@
 -- Worked rows, each computed.
-use Rattle.std.proofs.Common.{◌≡◌, ℕ, ◌+◌, refl, ◌^◌, pos, List, [], ◌∷◌, ◌++◌, map, true, false, Some, None, arith, codes}
+use Rattle.std.proofs.Common.{◌≡◌, ℕ, ◌+◌, refl, pos, List, [], ◌∷◌, ◌++◌, map, true, false, Some, None, arith, codes}
 use Rattle.ss_catalog.specs.Catalog.{id_of, without_name}
 use Rattle.ss_catalog.specs.Events.{IsInTime, event_name}
 use Rattle.ss_catalog.specs.Names.{is_name}
 use Rattle.ss_catalog.specs.Params.{exp as Exp, in_range, is_step, power as Power, step_for, step_number}
-use Rattle.ss_catalog.specs.Queries.{adds_up, end_name, is_guess, kind_name, query_verb, series_verb}
+use Rattle.ss_catalog.specs.Queries.{adds_up, end_name, is_certified, is_guess, kind_name, query_verb, series_verb}
 use Rattle.ss_catalog.specs.Refusal.{refusal_name}
 use Rattle.ss_catalog.specs.Series.{IsSeriesInRange, numbers_from, row_query, rows_in, rows_of, whole_query}
 use Rattle.ss_catalog.specs.declared.TheConstants.{MOST_ROWS, MOST_STREAMS, LAST_STREAM}
@@ -14,7 +14,7 @@ use Rattle.ss_catalog.specs.declared.name.TheConstants.{LONGEST_NAME}
 use Rattle.ss_catalog.specs.declared.params.Params.{Params}
 use Rattle.ss_catalog.specs.declared.params.TheConstants.{GREATEST_BASE, GREATEST_POWER, GREATEST_WIDENING, GREATEST_SCALE}
 use Rattle.ss_catalog.specs.declared.query.End.TheVariants.{Lo, Hi}
-use Rattle.ss_catalog.specs.declared.query.Kind.TheVariants.{Count, Sum, Min, Max, Has, CountGuess, SumGuess}
+use Rattle.ss_catalog.specs.declared.query.Kind.TheVariants.{Count, Sum, Min, Max, Mean, Has, CountGuess, SumGuess, MeanGuess}
 use Rattle.ss_catalog.specs.declared.refusal.Refusal.{Refusal}
 use Rattle.ss_catalog.specs.declared.refusal.Refusal.TheVariants as refusals
 use Rattle.ss_catalog.specs.declared.series.Series.{Series}
@@ -87,19 +87,25 @@ params-step_numbers = refl
 params-steps_for : map step_for (0 ∷ 1 ∷ 60 ∷ []) ≡ None ∷ Some 1 ∷ Some 60 ∷ []
 params-steps_for = refl
 
-kinds : map kind_name (Count ∷ Sum ∷ Min ∷ Max ∷ CountGuess ∷ SumGuess ∷ [])
-    ≡ codes "count" ∷ codes "sum" ∷ codes "min" ∷ codes "max" ∷ codes "count" ∷ codes "sum" ∷ []
+kinds : map kind_name (Count ∷ Sum ∷ Min ∷ Max ∷ Mean ∷ CountGuess ∷ SumGuess ∷ MeanGuess ∷ [])
+    ≡ codes "count" ∷ codes "sum" ∷ codes "min" ∷ codes "max" ∷ codes "mean" ∷ codes "count" ∷ codes "sum" ∷ codes "mean" ∷ []
 kinds = refl
 
-kinds-add_up : map adds_up (Count ∷ Sum ∷ Min ∷ Max ∷ CountGuess ∷ SumGuess ∷ []) ≡ true ∷ true ∷ false ∷ false ∷ false ∷ false ∷ []
+kinds-add_up : map adds_up (Count ∷ Sum ∷ Min ∷ Max ∷ Mean ∷ CountGuess ∷ SumGuess ∷ MeanGuess ∷ [])
+    ≡ true ∷ true ∷ false ∷ false ∷ false ∷ false ∷ false ∷ false ∷ []
 kinds-add_up = refl
 
-kinds-guess : map is_guess (Count ∷ Sum ∷ Min ∷ Max ∷ Has (pos 5) ∷ CountGuess ∷ SumGuess ∷ [])
-    ≡ false ∷ false ∷ false ∷ false ∷ false ∷ true ∷ true ∷ []
+kinds-certified : map is_certified (Count ∷ Sum ∷ Min ∷ Max ∷ Mean ∷ Has (pos 5) ∷ CountGuess ∷ SumGuess ∷ MeanGuess ∷ [])
+    ≡ true ∷ true ∷ false ∷ false ∷ true ∷ false ∷ false ∷ false ∷ false ∷ []
+kinds-certified = refl
+
+kinds-guess : map is_guess (Count ∷ Sum ∷ Min ∷ Max ∷ Mean ∷ Has (pos 5) ∷ CountGuess ∷ SumGuess ∷ MeanGuess ∷ [])
+    ≡ false ∷ false ∷ false ∷ false ∷ false ∷ false ∷ true ∷ true ∷ true ∷ []
 kinds-guess = refl
 
-kinds-verbs : map query_verb (Max ∷ Has (pos 5) ∷ SumGuess ∷ []) ++ map series_verb (Count ∷ CountGuess ∷ [])
-    ≡ codes "query" ∷ codes "query" ∷ codes "estimate" ∷ codes "series" ∷ codes "estimates" ∷ []
+kinds-verbs : map query_verb (Max ∷ Mean ∷ Has (pos 5) ∷ SumGuess ∷ MeanGuess ∷ []) ++ map series_verb (Count ∷ Mean ∷ CountGuess ∷ MeanGuess ∷ [])
+    ≡ codes "query" ∷ codes "query" ∷ codes "query" ∷ codes "estimate" ∷ codes "estimate" ∷ codes "series" ∷ codes "series" ∷ codes "estimates"
+    ∷ codes "estimates" ∷ []
 kinds-verbs = refl
 
 ends : map end_name (Lo ∷ Hi ∷ []) ≡ codes "lo" ∷ codes "hi" ∷ []

@@ -5,7 +5,7 @@ use Rattle.ss_base.specs.declared.limits.TheConstants.{LAST_TIME}
 use Rattle.ss_catalog.specs.declared.query.End.{End}
 use Rattle.ss_catalog.specs.declared.query.End.TheVariants.{Lo, Hi}
 use Rattle.ss_catalog.specs.declared.query.Kind.{Kind}
-use Rattle.ss_catalog.specs.declared.query.Kind.TheVariants.{Count, Sum, Min, Max, Has, CountGuess, SumGuess}
+use Rattle.ss_catalog.specs.declared.query.Kind.TheVariants.{Count, Sum, Min, Max, Mean, Has, CountGuess, SumGuess, MeanGuess}
 use Rattle.ss_catalog.specs.declared.query.Query.{Query}
 
 -- the name of what is asked for, in a command and in a reply
@@ -14,9 +14,11 @@ kind_name Count = codes "count"
 kind_name Sum = codes "sum"
 kind_name Min = codes "min"
 kind_name Max = codes "max"
+kind_name Mean = codes "mean"
 kind_name (Has value) = codes "has"
 kind_name CountGuess = codes "count"
 kind_name SumGuess = codes "sum"
+kind_name MeanGuess = codes "mean"
 
 -- the likeliest value is asked for
 abbrev pub is_guess : Kind → Bool
@@ -24,9 +26,11 @@ is_guess Count = false
 is_guess Sum = false
 is_guess Min = false
 is_guess Max = false
+is_guess Mean = false
 is_guess (Has value) = false
 is_guess CountGuess = true
 is_guess SumGuess = true
+is_guess MeanGuess = true
 
 -- the first word of a command that asks for it, and of one that does so in rows, which the reply to this has too
 abbrev pub query_verb : Kind → List ℕ
@@ -41,9 +45,23 @@ adds_up Count = true
 adds_up Sum = true
 adds_up Min = false
 adds_up Max = false
+adds_up Mean = false
 adds_up (Has value) = false
 adds_up CountGuess = false
 adds_up SumGuess = false
+adds_up MeanGuess = false
+
+-- there are certificates of the answers: of what adds up, and of means, which are made of two that do
+abbrev pub is_certified : Kind → Bool
+is_certified Count = true
+is_certified Sum = true
+is_certified Min = false
+is_certified Max = false
+is_certified Mean = true
+is_certified (Has value) = false
+is_certified CountGuess = false
+is_certified SumGuess = false
+is_certified MeanGuess = false
 
 -- the name of an end of an interval, in a command
 abbrev pub end_name : End → List ℕ
@@ -56,9 +74,11 @@ IsKindOfValues Count = Unit
 IsKindOfValues Sum = Unit
 IsKindOfValues Min = Unit
 IsKindOfValues Max = Unit
+IsKindOfValues Mean = Unit
 IsKindOfValues (Has value) = FitsSigned w64 value
 IsKindOfValues CountGuess = Unit
 IsKindOfValues SumGuess = Unit
+IsKindOfValues MeanGuess = Unit
 
 -- a query has no time above the last one
 abbrev pub IsQueryInTime : Query → Type 0

@@ -1,6 +1,6 @@
 // What is asked of a stream.
 ghost use Rattle.std.specs.Prelude.{◌≡◌};
-ghost use Rattle.ss_catalog.specs.Queries.{adds_up, end_name, is_guess, kind_name, series_verb};
+ghost use Rattle.ss_catalog.specs.Queries.{adds_up, end_name, is_certified, is_guess, kind_name, series_verb};
 
 use crate::Name;
 
@@ -15,12 +15,16 @@ pub enum Kind {
     Min,
     /// The greatest of them.
     Max,
+    /// Their mean.
+    Mean,
     /// Whether a value is one of them.
     Has { value: i64 },
     /// How many values there are, and the likeliest number.
     CountGuess,
     /// Their sum, and the likeliest one.
     SumGuess,
+    /// Their mean, and the likeliest one.
+    MeanGuess,
 }
 
 impl Kind {
@@ -33,6 +37,7 @@ impl Kind {
             Kind::Sum | Kind::SumGuess => "sum",
             Kind::Min => "min",
             Kind::Max => "max",
+            Kind::Mean | Kind::MeanGuess => "mean",
             Kind::Has { .. } => "has",
         }
     }
@@ -52,7 +57,7 @@ impl Kind {
     fn is_guess(self) -> bool
         ensures { result ≡ is_guess self }
     {
-        matches!(self, Kind::CountGuess | Kind::SumGuess)
+        matches!(self, Kind::CountGuess | Kind::SumGuess | Kind::MeanGuess)
     }
 
     /// Whether it adds up: what is asked for of all values is the sum of what it is of some and of the others.
@@ -60,6 +65,13 @@ impl Kind {
         ensures { result ≡ adds_up self }
     {
         matches!(self, Kind::Count | Kind::Sum)
+    }
+
+    /// Whether there are certificates of its answers.
+    pub fn is_certified(self) -> bool
+        ensures { result ≡ is_certified self }
+    {
+        matches!(self, Kind::Count | Kind::Sum | Kind::Mean)
     }
 }
 

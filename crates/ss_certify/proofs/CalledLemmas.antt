@@ -1,10 +1,9 @@
 -- What is made and checked over a store, by what is known of a stream.
 use Rattle.std.proofs.Common.{◌≡◌, refl, Bool, false, true, Option, Some, None, Result, Ok, Err, List, ap, subst, sym, ◌∙◌}
 use Rattle.std.specs.Prelude.{◌↔◌, IsTrue, IfSome, option_map}
-use Rattle.ss_catalog.specs.Queries.{adds_up}
+use Rattle.ss_catalog.specs.Queries.{is_certified}
 use Rattle.ss_catalog.specs.declared.query.End.{End}
 use Rattle.ss_catalog.specs.declared.query.Query.{Query}
-use Rattle.ss_laws.specs.Attained.{MayBeTrue}
 use Rattle.ss_model.specs.Answers.{outcome_of}
 use Rattle.ss_model.specs.Standing.{IsState, IsStream}
 use Rattle.ss_model.specs.State.{Stream, stream_named}
@@ -23,9 +22,10 @@ use Rattle.ss_store.proofs.KeptStates.{AllAgree-recovered}
 use Rattle.ss_certify.specs.Called.{ChecksEvidence, MakesEvidence}
 use Rattle.ss_certify.specs.Evidence.{IsEvidence, end_asked}
 use Rattle.ss_certify.specs.Made.{evidence_of}
+use Rattle.ss_certify.specs.Shown.{MayBeAnswer}
 use Rattle.ss_certify.specs.declared.evidence.Evidence.{Evidence}
 use Rattle.ss_certify.proofs.MadeLemmas.{IsEvidence-evidence_of}
-use Rattle.ss_certify.proofs.SharpLemmas.{MayBeTrue-answer, end_asked-answer}
+use Rattle.ss_certify.proofs.SharpLemmas.{MayBeAnswer-answer, end_asked-answer}
 
 -- a look and what is made of it have the same errors
 pub error-same : {B : Type 0} (e other : AskError) (P : Type 0) → ◌≡◌ {A = Result Seen AskError} (Err e) (Err other) ↔ P →
@@ -46,11 +46,11 @@ module _ (query : Query) (end : End) (w : Evidence) (seen : Seen) (right : Bool)
       subst (λ (k : Seen). IsTrue right ↔ IsEvidence query.kind end k w) (sym same) shown
 
   true-named : (streams : List Stream) (o : Option Stream) → stream_named query.name streams ≡ o →
-      option_map (seen_of query.kind query.from query.to) o ≡ Some seen → right ≡ true → MayBeTrue streams query w.answer
+      option_map (seen_of query.kind query.from query.to) o ≡ Some seen → right ≡ true → MayBeAnswer streams query w.answer
   true-named streams None found known is = absurd (cc)
   true-named streams (Some s) found known is =
       let same : seen_of query.kind query.from query.to s ≡ seen = cc in
-      MayBeTrue-answer streams query s end w found (subst (λ (k : Seen). IsEvidence query.kind end k w) (sym same) (shown.0 is))
+      MayBeAnswer-answer streams query s end w found (subst (λ (k : Seen). IsEvidence query.kind end k w) (sym same) (shown.0 is))
 
   asked-named : (streams : List Stream) (o : Option Stream) (answer : Option Outcome) → IsState streams → stream_named query.name streams ≡ o →
       option_map (seen_of query.kind query.from query.to) o ≡ Some seen → outcome_of streams query ≡ answer → right ≡ true →
@@ -96,10 +96,10 @@ module _ (query : Query) (end : End) (w : Evidence) (seen : Seen) (made : w ≡ 
       let same : seen_of query.kind query.from query.to s ≡ seen = cc in
       subst (λ (k : Seen). IsEvidence query.kind end k w) (sym same) shown
 
-  pub makes-seen : {before after : DiskView} (was : RecordsState) → adds_up query.kind ≡ true → HasCuts seen →
+  pub makes-seen : {before after : DiskView} (was : RecordsState) → is_certified query.kind ≡ true → HasCuts seen →
       Step fine before after (Sees was query (Ok seen)) → Step fine before after (MakesEvidence was query end (Ok w))
-  makes-seen was adds has step =
-      let shown = subst (IsEvidence query.kind end seen) (sym made) (IsEvidence-evidence_of query.kind end seen adds has) in
+  makes-seen was certified has step =
+      let shown = subst (IsEvidence query.kind end seen) (sym made) (IsEvidence-evidence_of query.kind end seen certified has) in
       record {
         tells = step.tells;
         counted = step.counted;

@@ -6,6 +6,7 @@ pub mod CheckLemmas
 pub mod SumLemmas
 pub mod MadeLemmas
 mod MadeRows
+mod MeanRows
 pub mod SharpLemmas
 pub mod SharpAnswers
 mod SharpRows

@@ -1,33 +1,37 @@
 -- The evidence that is made shows the end that is asked for.
-use Rattle.std.specs.Prelude.{◌≡◌, ℕ, zero, suc, ◌-◌, ◌<◌, ◌≤◌, true, ℤ, pos, ◌+ℤ◌, ◌-ℤ◌, ◌≤ℤ◌, List, [], ◌∷◌, ◌++◌, map, Contains, Option, None, Some, IfSome}
-use Rattle.std.proofs.Common.{ap, ap₂, arith, inl, inr, refl, ◌∙◌}
+use Rattle.std.specs.Prelude.{◌≡◌, ℕ, zero, suc, ◌+◌, ◌-◌, ◌<◌, ◌≤◌, Bool, true, false, ℤ, pos, ◌+ℤ◌, ◌-ℤ◌, ◌≤ℤ◌, List, [], ◌∷◌, ◌++◌, map, Contains, Option, None, Some, IfSome}
+use Rattle.std.specs.Option.{option_map}
+use Rattle.std.proofs.Common.{ap, arith, inl, inr, refl, sym, ◌∙◌}
 use Rattle.std.proofs.lemmas.Int.{ints}
 use Rattle.std.proofs.lemmas.List.Elements.{All-cons, All-nil, Contains-append_left, Contains-append_right}
+use Rattle.ss_bounds.specs.declared.fraction.Fraction.{Fraction}
 use Rattle.ss_bounds.specs.Extremes.{listed}
+use Rattle.ss_bounds.specs.Fractions.{lowest}
+use Rattle.ss_bounds.specs.Guess.{AreAllSplit}
+use Rattle.ss_bounds.specs.MeanAttained.{lowest_mean}
+use Rattle.ss_bounds.specs.Means.{greatest_mean, least_mean, mean_from, mean_interval, so_many, with_values}
 use Rattle.ss_bounds.specs.Parted.{CanBeParted, CanHoldGreatest, CanHoldLeast, CanMake}
 use Rattle.ss_bounds.specs.Split.{IsSplit, SplitFigures, greatest_count, least_count}
 use Rattle.ss_bounds.specs.Truth.{total}
 use Rattle.ss_bounds.proofs.AttainedLemmas.{greatest_count-few, greatest_sum_at-first, least_sum_at-first}
-use Rattle.ss_bounds.proofs.Held.{held}
+use Rattle.ss_bounds.proofs.MeanAttainedLemmas.{AreBoth, both-ends, greatest_mean_at-attains, least_mean_at-attains}
 use Rattle.ss_bounds.proofs.PartedLemmas.{CanBeParted-high_sum, CanBeParted-low_sum}
-use Rattle.ss_catalog.specs.Queries.{adds_up}
+use Rattle.ss_catalog.specs.Queries.{is_certified}
 use Rattle.ss_catalog.specs.declared.query.End.{End}
 use Rattle.ss_catalog.specs.declared.query.End.TheVariants.{Lo, Hi}
 use Rattle.ss_catalog.specs.declared.query.Kind.{Kind}
-use Rattle.ss_catalog.specs.declared.query.Kind.TheVariants.{Count, Sum, Min, Max, Has, CountGuess, SumGuess}
+use Rattle.ss_catalog.specs.declared.query.Kind.TheVariants.{Count, Sum, Min, Max, Mean, Has, CountGuess, SumGuess, MeanGuess}
 use Rattle.ss_model.specs.declared.types.Run.{Run}
-use Rattle.ss_query.specs.Asked.{HasCuts, IsCut, counts_of, outcome_seen, sums_of}
-use Rattle.ss_base.specs.Near.{IsNear}
-use Rattle.ss_query.proofs.NearSums.{held-near, held-three}
+use Rattle.ss_query.specs.Asked.{HasCuts, IsCut, counts_of, figures_of, outcome_seen, sums_of, values_seen}
 use Rattle.ss_query.specs.declared.asking.Seen.{Seen}
 use Rattle.ss_query.specs.declared.cut.Cut.{Cut}
 use Rattle.ss_certify.specs.Checked.{Certifies, inside_of, outside_of}
-use Rattle.ss_certify.specs.Evidence.{AllCertify, IsEvidence, base_of, cuts_of, end_asked, certified_part, certified_sum}
+use Rattle.ss_certify.specs.Evidence.{AllCertify, IsEvidence, answer_from, certified, cuts_of, end_asked, mean_end, with_certified}
 use Rattle.ss_certify.specs.Fill.{Fills, RiseBetween, fill}
-use Rattle.ss_certify.specs.Made.{attaining, certificate_of, certificate_with, evidence_of, inside_sum}
+use Rattle.ss_certify.specs.Made.{attaining, certificate_of, certificate_with, certificates_of, evidence_of, inside_sum}
 use Rattle.ss_certify.specs.Runs.{HaveValues, values_of_runs}
+use Rattle.ss_certify.specs.declared.evidence.Answer.TheVariants as answers
 use Rattle.ss_certify.specs.declared.evidence.Cert.{Cert}
-use Rattle.ss_certify.specs.declared.evidence.Evidence.{Evidence}
 use Rattle.ss_certify.proofs.BetweenLemmas.{between-append}
 use Rattle.ss_certify.proofs.FillLemmas.{Fills-fill, greatest-fill, least-fill}
 use Rattle.ss_certify.proofs.RunLemmas.{total-append}
@@ -52,28 +56,34 @@ Contains-greatest m M (suc j) v order hold =
     greatest-fill j v m M order (rw one at hold.low)
 
 -- the number that attains an end may lie in the range, and the values can be parted with it
-attaining-between : (kind : Kind) (end : End) (s : SplitFigures) → IsSplit s
-    → (least_count s ≤ attaining kind end s) × (attaining kind end s ≤ greatest_count s)
-attaining-between Count Lo s split = let room = split.room in (omega arith, omega arith)
-attaining-between Count Hi s split = let room = split.room in (omega arith, omega arith)
-attaining-between Sum Lo s split = let first = (least_sum_at-first s split).0 in (first.from, first.to)
-attaining-between Sum Hi s split = let first = (greatest_sum_at-first s split).0 in (first.from, first.to)
-attaining-between Min Lo s split = let room = split.room in (omega arith, omega arith)
-attaining-between Min Hi s split = let room = split.room in (omega arith, omega arith)
-attaining-between Max Lo s split = let room = split.room in (omega arith, omega arith)
-attaining-between Max Hi s split = let room = split.room in (omega arith, omega arith)
-attaining-between (Has value) Lo s split = let room = split.room in (omega arith, omega arith)
-attaining-between (Has value) Hi s split = let room = split.room in (omega arith, omega arith)
-attaining-between CountGuess Lo s split = let room = split.room in (omega arith, omega arith)
-attaining-between CountGuess Hi s split = let room = split.room in (omega arith, omega arith)
-attaining-between SumGuess Lo s split = let room = split.room in (omega arith, omega arith)
-attaining-between SumGuess Hi s split = let room = split.room in (omega arith, omega arith)
+attaining-between : (kind : Kind) (end : End) (known : Fraction) (s : SplitFigures) (rest : List SplitFigures) → IsSplit s → AreAllSplit rest
+    → (least_count s ≤ attaining kind end known s rest) × (attaining kind end known s rest ≤ greatest_count s)
+attaining-between Sum Lo known s rest split others = let first = (least_sum_at-first s split).0 in (first.from, first.to)
+attaining-between Sum Hi known s rest split others = let first = (greatest_sum_at-first s split).0 in (first.from, first.to)
+attaining-between Mean Lo known s rest split others = let at = least_mean_at-attains known s rest (split, others) in (at.from, at.to)
+attaining-between Mean Hi known s rest split others = let at = greatest_mean_at-attains known s rest (split, others) in (at.from, at.to)
+attaining-between Count Lo known s rest split others = let room = split.room in (omega arith, omega arith)
+attaining-between Count Hi known s rest split others = let room = split.room in (omega arith, omega arith)
+attaining-between Min Lo known s rest split others = let room = split.room in (omega arith, omega arith)
+attaining-between Min Hi known s rest split others = let room = split.room in (omega arith, omega arith)
+attaining-between Max Lo known s rest split others = let room = split.room in (omega arith, omega arith)
+attaining-between Max Hi known s rest split others = let room = split.room in (omega arith, omega arith)
+attaining-between (Has value) Lo known s rest split others = let room = split.room in (omega arith, omega arith)
+attaining-between (Has value) Hi known s rest split others = let room = split.room in (omega arith, omega arith)
+attaining-between CountGuess Lo known s rest split others = let room = split.room in (omega arith, omega arith)
+attaining-between CountGuess Hi known s rest split others = let room = split.room in (omega arith, omega arith)
+attaining-between SumGuess Lo known s rest split others = let room = split.room in (omega arith, omega arith)
+attaining-between SumGuess Hi known s rest split others = let room = split.room in (omega arith, omega arith)
+attaining-between MeanGuess Lo known s rest split others = let room = split.room in (omega arith, omega arith)
+attaining-between MeanGuess Hi known s rest split others = let room = split.room in (omega arith, omega arith)
 
 pub CanBeParted-inside_sum : (kind : Kind) (end : End) (s : SplitFigures) (x : ℕ) → IsSplit s → x < s.count → CanBeParted s x (inside_sum kind end s x)
+CanBeParted-inside_sum Sum Hi s x split few = CanBeParted-high_sum s split x few
+CanBeParted-inside_sum Mean Hi s x split few = CanBeParted-high_sum s split x few
+CanBeParted-inside_sum Sum Lo s x split few = CanBeParted-low_sum s split x few
+CanBeParted-inside_sum Mean Lo s x split few = CanBeParted-low_sum s split x few
 CanBeParted-inside_sum Count Lo s x split few = CanBeParted-low_sum s split x few
 CanBeParted-inside_sum Count Hi s x split few = CanBeParted-low_sum s split x few
-CanBeParted-inside_sum Sum Lo s x split few = CanBeParted-low_sum s split x few
-CanBeParted-inside_sum Sum Hi s x split few = CanBeParted-high_sum s split x few
 CanBeParted-inside_sum Min Lo s x split few = CanBeParted-low_sum s split x few
 CanBeParted-inside_sum Min Hi s x split few = CanBeParted-low_sum s split x few
 CanBeParted-inside_sum Max Lo s x split few = CanBeParted-low_sum s split x few
@@ -84,9 +94,19 @@ CanBeParted-inside_sum CountGuess Lo s x split few = CanBeParted-low_sum s split
 CanBeParted-inside_sum CountGuess Hi s x split few = CanBeParted-low_sum s split x few
 CanBeParted-inside_sum SumGuess Lo s x split few = CanBeParted-low_sum s split x few
 CanBeParted-inside_sum SumGuess Hi s x split few = CanBeParted-low_sum s split x few
+CanBeParted-inside_sum MeanGuess Lo s x split few = CanBeParted-low_sum s split x few
+CanBeParted-inside_sum MeanGuess Hi s x split few = CanBeParted-low_sum s split x few
 
-pub attaining-few : (kind : Kind) (end : End) (s : SplitFigures) → IsSplit s → attaining kind end s < s.count
-attaining-few kind end s split = let few = greatest_count-few s split in let most = (attaining-between kind end s split).1 in omega arith
+pub attaining-few : (kind : Kind) (end : End) (known : Fraction) (s : SplitFigures) (rest : List SplitFigures) → IsSplit s → AreAllSplit rest
+    → attaining kind end known s rest < s.count
+attaining-few kind end known s rest split others =
+    let few = greatest_count-few s split in
+    let most = (attaining-between kind end known s rest split others).1 in
+    omega arith
+
+pub AreAllSplit-other : (t : Option SplitFigures) → IfSome t IsSplit → AreAllSplit (listed None t)
+AreAllSplit-other None split = tt
+AreAllSplit-other (Some t) split = (split, tt)
 
 -- a certificate with values as the window may hold them is one
 module _ (cut : Cut) (x : ℕ) (sum : ℤ) (split : IsSplit cut.split) (can : CanBeParted cut.split x sum) where
@@ -134,106 +154,188 @@ module _ (cut : Cut) (x : ℕ) (sum : ℤ) (split : IsSplit cut.split) (can : Ca
         sum = total-both;
       }
 
-pub Certifies-certificate_of : (kind : Kind) (end : End) (cut : Cut) → IsCut cut → Certifies cut (certificate_of kind end cut)
-Certifies-certificate_of kind end cut is =
-    let s = cut.split in
-    let x = attaining kind end s in
-    let can = CanBeParted-inside_sum kind end s x is.split (attaining-few kind end s is.split) in
-    let between = attaining-between kind end s is.split in
-    Certifies-certificate_with cut x (inside_sum kind end s x) is.split can between.0 between.1
+-- of one window beside others
+module _ (kind : Kind) (end : End) (known : Fraction) (cut : Cut) (rest : List SplitFigures) (is : IsCut cut) (others : AreAllSplit rest) where
+  abbrev number : ℕ
+  number = attaining kind end known cut.split rest
 
--- of all windows that the range splits
-AllCertify-listed : (kind : Kind) (end : End) (left right : Option Cut) → IfSome left IsCut → IfSome right IsCut
-    → AllCertify (listed left right) (map (certificate_of kind end) (listed left right))
-AllCertify-listed kind end None None first second = tt
-AllCertify-listed kind end None (Some b) first second = (Certifies-certificate_of kind end b second, tt)
-AllCertify-listed kind end (Some a) None first second = (Certifies-certificate_of kind end a first, tt)
-AllCertify-listed kind end (Some a) (Some b) first second =
-    (Certifies-certificate_of kind end a first, (Certifies-certificate_of kind end b second, tt))
+  parted : CanBeParted cut.split number (inside_sum kind end cut.split number)
+  parted = CanBeParted-inside_sum kind end cut.split number is.split (attaining-few kind end known cut.split rest is.split others)
 
--- what the values in the range of a certificate that is made add up to
-total-inside_of : (kind : Kind) (end : End) (cut : Cut) → IsCut cut
-    → total (inside_of (certificate_of kind end cut)) ≡ inside_sum kind end cut.split (attaining kind end cut.split)
-total-inside_of kind end cut is =
-    let s = cut.split in
-    let x = attaining kind end s in
-    let can = CanBeParted-inside_sum kind end s x is.split (attaining-few kind end s is.split) in
-    (inside-fills cut x (inside_sum kind end s x) is.split can).sum
+  pub Certifies-certificate_of : Certifies cut (certificate_of kind end known cut rest)
+  Certifies-certificate_of =
+      let between = attaining-between kind end known cut.split rest is.split others in
+      Certifies-certificate_with cut number (inside_sum kind end cut.split number) is.split parted between.0 between.1
 
--- so each adds what its window adds to the end
+  -- what its values in the range add up to
+  total-inside_of : total (inside_of (certificate_of kind end known cut rest)) ≡ inside_sum kind end cut.split number
+  total-inside_of = (inside-fills cut number (inside_sum kind end cut.split number) is.split parted).sum
+
+  certified-is : certified (certificate_of kind end known cut rest) ≡ so_many (inside_sum kind end cut.split) number
+  certified-is = ap (λ z. so_many (λ n. z) number) total-inside_of
+
+-- ---- of all windows that the range splits
+
+abbrev pub AreCuts : List Cut → Type 0
+AreCuts [] = Unit {0}
+AreCuts (cut ∷ cuts) = IsCut cut × AreCuts cuts
+
+abbrev pub figures : List Cut → List SplitFigures
+figures cuts = map (λ (cut : Cut). cut.split) cuts
+
+AreAllSplit-cuts : (cuts : List Cut) → AreCuts cuts → AreAllSplit (figures cuts)
+AreAllSplit-cuts [] are = tt
+AreAllSplit-cuts (cut ∷ cuts) are = (are.0.split, AreAllSplit-cuts cuts are.1)
+
+AreCuts-listed : (left right : Option Cut) → IfSome left IsCut → IfSome right IsCut → AreCuts (listed left right)
+AreCuts-listed None None first second = tt
+AreCuts-listed None (Some b) first second = (second, tt)
+AreCuts-listed (Some a) None first second = (first, tt)
+AreCuts-listed (Some a) (Some b) first second = (first, (second, tt))
+
+AllCertify-certificates_of : (kind : Kind) (end : End) (known : Fraction) (cuts : List Cut) → AreCuts cuts
+    → AllCertify cuts (certificates_of kind end known cuts)
+AllCertify-certificates_of kind end known [] are = tt
+AllCertify-certificates_of kind end known (cut ∷ cuts) are = (
+  Certifies-certificate_of kind end known cut (figures cuts) are.0 (AreAllSplit-cuts cuts are.1),
+  AllCertify-certificates_of kind end (with_values known (certified (certificate_of kind end known cut (figures cuts)))) cuts are.1,
+)
+
+-- each adds what its window adds to the number of values, and to their sum
+module _ (kind : Kind) (end : End) (share : Option Cut → ℕ) (none : share None ≡ 0)
+    (some : (known : Fraction) (cut : Cut) (rest : List SplitFigures) → IsCut cut → AreAllSplit rest
+    → (certified (certificate_of kind end known cut rest)).under ≡ share (Some cut)) where
+  counts-listed : (known : Fraction) (left right : Option Cut) → IfSome left IsCut → IfSome right IsCut
+      → (with_certified known (certificates_of kind end known (listed left right))).under ≡ known.under + share left + share right
+  counts-listed known None None first second = omega arith
+  counts-listed known None (Some b) first second = let one = some known b [] second tt in omega arith
+  counts-listed known (Some a) None first second = let one = some known a [] first tt in omega arith
+  counts-listed known (Some a) (Some b) first second =
+      let one = some known a (b.split ∷ []) first (second.split, tt) in
+      let other = some (with_values known (certified (certificate_of kind end known a (b.split ∷ [])))) b [] second tt in
+      omega arith
+
 module _ (kind : Kind) (end : End) (share : Option Cut → ℤ) (none : share None ≡ pos 0)
-    (some : (cut : Cut) → IsCut cut → certified_part kind (certificate_of kind end cut) ≡ share (Some cut)) where
-  parts-listed : (left right : Option Cut) → IfSome left IsCut → IfSome right IsCut
-      → certified_sum kind (map (certificate_of kind end) (listed left right)) ≡ (share left +ℤ share right)
-  parts-listed None None first second = omega (arith, ints)
-  parts-listed None (Some b) first second = let one = some b second in omega (arith, ints)
-  parts-listed (Some a) None first second = let one = some a first in omega (arith, ints)
-  parts-listed (Some a) (Some b) first second = let one = some a first in let other = some b second in omega (arith, ints)
+    (some : (known : Fraction) (cut : Cut) (rest : List SplitFigures) → IsCut cut → AreAllSplit rest
+    → (certified (certificate_of kind end known cut rest)).over ≡ share (Some cut)) where
+  sums-listed : (known : Fraction) (left right : Option Cut) → IfSome left IsCut → IfSome right IsCut
+      → (with_certified known (certificates_of kind end known (listed left right))).over ≡ ((known.over +ℤ share left) +ℤ share right)
+  sums-listed known None None first second = omega (arith, ints)
+  sums-listed known None (Some b) first second = let one = some known b [] second tt in omega (arith, ints)
+  sums-listed known (Some a) None first second = let one = some known a [] first tt in omega (arith, ints)
+  sums-listed known (Some a) (Some b) first second =
+      let one = some known a (b.split ∷ []) first (second.split, tt) in
+      let other = some (with_values known (certified (certificate_of kind end known a (b.split ∷ [])))) b [] second tt in
+      omega (arith, ints)
 
-asked-evidence_of : (kind : Kind) (end : End) (seen : Seen) → adds_up kind ≡ true → HasCuts seen
-    → end_asked end (outcome_seen kind seen) ≡ Some (base_of kind seen +ℤ certified_sum kind (map (certificate_of kind end) (cuts_of seen)))
-asked-evidence_of Count Lo seen adds has =
-    let parts = parts-listed Count Lo (λ cut. pos (counts_of cut).0) refl (λ cut is. refl) seen.left seen.right has.left has.right in
-    ap Some (omega (arith, ints))
-asked-evidence_of Count Hi seen adds has =
-    let parts = parts-listed Count Hi (λ cut. pos (counts_of cut).1) refl (λ cut is. refl) seen.left seen.right has.left has.right in
-    ap Some (omega (arith, ints))
-asked-evidence_of Sum Lo seen adds has =
-    let parts = parts-listed Sum Lo (λ cut. (sums_of cut).0) refl (λ cut is. total-inside_of Sum Lo cut is ∙ (least_sum_at-first cut.split is.split).1)
-    seen.left seen.right has.left has.right in
-    ap Some (omega (arith, ints))
-asked-evidence_of Sum Hi seen adds has =
-    let parts = parts-listed Sum Hi (λ cut. (sums_of cut).1) refl (λ cut is. total-inside_of Sum Hi cut is ∙ (greatest_sum_at-first cut.split is.split).1)
-    seen.left seen.right has.left has.right in
-    ap Some (omega (arith, ints))
-asked-evidence_of Min end seen adds has = cc
-asked-evidence_of Max end seen adds has = cc
-asked-evidence_of (Has value) end seen adds has = cc
-asked-evidence_of CountGuess end seen adds has = cc
-asked-evidence_of SumGuess end seen adds has = cc
+-- with the values of all certificates the mean is the end
+least-certified : (known : Fraction) (cuts : List Cut) → AreCuts cuts
+    → lowest_mean (with_certified known (certificates_of Mean Lo known cuts)) ≡ option_map lowest (least_mean known (figures cuts))
+least-certified known [] are = refl
+least-certified known (cut ∷ cuts) are =
+    let others = AreAllSplit-cuts cuts are.1 in
+    let c = certificate_of Mean Lo known cut (figures cuts) in
+    let at = least_mean_at-attains known cut.split (figures cuts) (are.0.split, others) in
+    let is = certified-is Mean Lo known cut (figures cuts) are.0 others in
+    least-certified (with_values known (certified c)) cuts are.1
+    ∙ ap (λ v. option_map lowest (least_mean (with_values known v) (figures cuts))) is ∙ at.same
 
-pub IsEvidence-evidence_of : (kind : Kind) (end : End) (seen : Seen) → adds_up kind ≡ true → HasCuts seen
+greatest-certified : (known : Fraction) (cuts : List Cut) → AreCuts cuts
+    → lowest_mean (with_certified known (certificates_of Mean Hi known cuts)) ≡ option_map lowest (greatest_mean known (figures cuts))
+greatest-certified known [] are = refl
+greatest-certified known (cut ∷ cuts) are =
+    let others = AreAllSplit-cuts cuts are.1 in
+    let c = certificate_of Mean Hi known cut (figures cuts) in
+    let at = greatest_mean_at-attains known cut.split (figures cuts) (are.0.split, others) in
+    let is = certified-is Mean Hi known cut (figures cuts) are.0 others in
+    greatest-certified (with_values known (certified c)) cuts are.1
+    ∙ ap (λ v. option_map lowest (greatest_mean (with_values known v) (figures cuts))) is ∙ at.same
+
+figures-listed : (left right : Option Cut) → figures (listed left right) ≡ listed (figures_of left) (figures_of right)
+figures-listed None None = refl
+figures-listed None (Some b) = refl
+figures-listed (Some a) None = refl
+figures-listed (Some a) (Some b) = refl
+
+-- the ends of a mean, where both are there or none is
+least-end : (sure : Bool) (lo hi : Option Fraction) → AreBoth lo hi → mean_end Lo (mean_from sure lo hi) ≡ lo
+least-end sure None hi both = refl
+least-end sure (Some l) None both = absurd both
+least-end true (Some l) (Some h) both = refl
+least-end false (Some l) (Some h) both = refl
+
+greatest-end : (sure : Bool) (lo hi : Option Fraction) → AreBoth lo hi → mean_end Hi (mean_from sure lo hi) ≡ hi
+greatest-end sure None None both = refl
+greatest-end sure None (Some h) both = absurd both
+greatest-end sure (Some l) None both = absurd both
+greatest-end true (Some l) (Some h) both = refl
+greatest-end false (Some l) (Some h) both = refl
+
+mean_end-least : (known : Fraction) (splits : List SplitFigures) → AreAllSplit splits
+    → mean_end Lo (mean_interval known splits) ≡ option_map lowest (least_mean known splits)
+unfolding mean_interval
+mean_end-least known splits all = least-end _ _ _ (both-ends known splits all)
+
+mean_end-greatest : (known : Fraction) (splits : List SplitFigures) → AreAllSplit splits
+    → mean_end Hi (mean_interval known splits) ≡ option_map lowest (greatest_mean known splits)
+unfolding mean_interval
+mean_end-greatest known splits all = greatest-end _ _ _ (both-ends known splits all)
+
+module _ (seen : Seen) (has : HasCuts seen) where
+  abbrev known : Fraction
+  known = values_seen seen
+
+  abbrev cuts : List Cut
+  cuts = cuts_of seen
+
+  are : AreCuts cuts
+  are = AreCuts-listed seen.left seen.right has.left has.right
+
+  least-asked : mean_end Lo (mean_interval known (listed (figures_of seen.left) (figures_of seen.right)))
+      ≡ lowest_mean (with_certified known (certificates_of Mean Lo known cuts))
+  least-asked =
+      ap (λ l. mean_end Lo (mean_interval known l)) (sym (figures-listed seen.left seen.right))
+      ∙ mean_end-least known (figures cuts) (AreAllSplit-cuts cuts are) ∙ sym (least-certified known cuts are)
+
+  greatest-asked : mean_end Hi (mean_interval known (listed (figures_of seen.left) (figures_of seen.right)))
+      ≡ lowest_mean (with_certified known (certificates_of Mean Hi known cuts))
+  greatest-asked =
+      ap (λ l. mean_end Hi (mean_interval known l)) (sym (figures-listed seen.left seen.right))
+      ∙ mean_end-greatest known (figures cuts) (AreAllSplit-cuts cuts are) ∙ sym (greatest-certified known cuts are)
+
+  -- so the evidence that is made has the end that is asked for
+  asked-evidence_of : (kind : Kind) (end : End) → is_certified kind ≡ true
+      → end_asked end (outcome_seen kind seen) ≡ Some (answer_from kind (with_certified known (certificates_of kind end known cuts)))
+  asked-evidence_of Count Lo certified_kind =
+      let counts = counts-listed Count Lo (λ cut. (counts_of cut).0) refl (λ k cut rest is others. refl) known seen.left seen.right has.left has.right in
+      ap (λ n. Some (answers.Count n)) (sym counts)
+  asked-evidence_of Count Hi certified_kind =
+      let counts = counts-listed Count Hi (λ cut. (counts_of cut).1) refl (λ k cut rest is others. refl) known seen.left seen.right has.left has.right in
+      ap (λ n. Some (answers.Count n)) (sym counts)
+  asked-evidence_of Sum Lo certified_kind =
+      let sums = sums-listed Sum Lo (λ cut. (sums_of cut).0) refl
+      (λ k cut rest is others. total-inside_of Sum Lo k cut rest is others ∙ (least_sum_at-first cut.split is.split).1)
+      known seen.left seen.right has.left has.right in
+      ap (λ z. Some (answers.Sum z)) (sym sums)
+  asked-evidence_of Sum Hi certified_kind =
+      let sums = sums-listed Sum Hi (λ cut. (sums_of cut).1) refl
+      (λ k cut rest is others. total-inside_of Sum Hi k cut rest is others ∙ (greatest_sum_at-first cut.split is.split).1)
+      known seen.left seen.right has.left has.right in
+      ap (λ z. Some (answers.Sum z)) (sym sums)
+  asked-evidence_of Mean Lo certified_kind = ap (λ m. Some (answers.Mean m)) least-asked
+  asked-evidence_of Mean Hi certified_kind = ap (λ m. Some (answers.Mean m)) greatest-asked
+  asked-evidence_of Min end certified_kind = cc
+  asked-evidence_of Max end certified_kind = cc
+  asked-evidence_of (Has value) end certified_kind = cc
+  asked-evidence_of CountGuess end certified_kind = cc
+  asked-evidence_of SumGuess end certified_kind = cc
+  asked-evidence_of MeanGuess end certified_kind = cc
+
+pub IsEvidence-evidence_of : (kind : Kind) (end : End) (seen : Seen) → is_certified kind ≡ true → HasCuts seen
     → IsEvidence kind end seen (evidence_of kind end seen)
-IsEvidence-evidence_of kind end seen adds has = record {
-  certificates = AllCertify-listed kind end seen.left seen.right has.left has.right;
-  base = refl;
-  adds_up = refl;
-  asked = asked-evidence_of kind end seen adds has;
+IsEvidence-evidence_of kind end seen certified_kind has = record {
+  certificates = AllCertify-certificates_of kind end (values_seen seen) (cuts_of seen) (are seen has);
+  known = refl;
+  answers = refl;
+  asked = asked-evidence_of seen has kind end certified_kind;
 }
-
--- what the code adds for one window and for the other
-pub map-listed : (f : Cut → Cert) (left right : Option Cut) → map f (listed left None) ++ map f (listed right None) ≡ map f (listed left right)
-map-listed f None None = refl
-map-listed f None (Some b) = refl
-map-listed f (Some a) None = refl
-map-listed f (Some a) (Some b) = refl
-
-parts-each : (kind : Kind) (f : Cut → Cert) (left right : Option Cut)
-    → certified_sum kind (map f (listed left right)) ≡ (certified_sum kind (map f (listed left None)) +ℤ certified_sum kind (map f (listed right None)))
-parts-each kind f None None = refl
-parts-each kind f None (Some b) = omega (arith, ints)
-parts-each kind f (Some a) None = omega (arith, ints)
-parts-each kind f (Some a) (Some b) = omega (arith, ints)
-
--- so it makes the evidence
-pub computed-evidence : (kind : Kind) (end : End) (seen : Seen) (base left right : ℤ) (none first both : List Cert)
-    → IsNear base → IsNear left → IsNear right → base ≡ base_of kind seen
-    → left ≡ certified_sum kind (map (certificate_of kind end) (listed seen.left None))
-    → right ≡ certified_sum kind (map (certificate_of kind end) (listed seen.right None))
-    → none ≡ [] → first ≡ none ++ map (certificate_of kind end) (listed seen.left None)
-    → both ≡ first ++ map (certificate_of kind end) (listed seen.right None)
-    → ◌≡◌ {A = Evidence}
-    (record { answer = held (held (held base +ℤ held left) +ℤ held right); base = held base; certs = record { items = both } })
-    (evidence_of kind end seen)
-computed-evidence kind end seen base left right none first both base_near left_near right_near base_is left_is right_is none_is first_is both_is =
-    let f = certificate_of kind end in
-    let old = map f (listed seen.left None) in
-    let new = map f (listed seen.right None) in
-    let items : both ≡ map f (listed seen.left seen.right) =
-    both_is ∙ ap (λ certs. certs ++ new) (first_is ∙ ap (λ certs. certs ++ old) none_is) ∙ map-listed f seen.left seen.right in
-    let parts = parts-each kind f seen.left seen.right in
-    let sum : ((base +ℤ left) +ℤ right) ≡ (base_of kind seen +ℤ certified_sum kind (map f (cuts_of seen))) = omega (arith, ints) in
-    let answer = held-three base left right base_near left_near right_near ∙ sum in
-    let known = held-near base base_near ∙ base_is in
-    let made : ℤ → ℤ → List Cert → Evidence = λ a b certs. record { answer = a; base = b; certs = record { items = certs } } in
-    ap₂ (λ a b. made a b both) answer known ∙ ap (made (base_of kind seen +ℤ certified_sum kind (map f (cuts_of seen))) (base_of kind seen)) items

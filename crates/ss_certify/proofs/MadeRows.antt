@@ -19,28 +19,30 @@ use Rattle.ss_report.specs.Text.{reply_line}
 use Rattle.ss_certify.specs.Fill.{fill, run}
 use Rattle.ss_certify.specs.Made.{evidence_of}
 use Rattle.ss_certify.specs.Told.{told}
+use Rattle.ss_certify.specs.declared.evidence.Answer.{Answer}
+use Rattle.ss_certify.specs.declared.evidence.Answer.TheVariants as answers
 use Rattle.ss_certify.specs.declared.evidence.Cert.{Cert}
 use Rattle.ss_certify.specs.declared.evidence.Evidence.{Evidence}
 
 -- a window by its figures, and a stream with windows and landmarks
-abbrev window : ℕ → ℕ → ℤ → ℤ → ℤ → ℕ → ℕ → Window
+abbrev pub window : ℕ → ℕ → ℤ → ℤ → ℤ → ℕ → ℕ → Window
 window first count sum min max t_first t_last = record {
   first = first;
   summary = record { count = count; sum = sum; min = min; max = max; t_first = t_first; t_last = t_last; filter = full };
 }
 
-abbrev stream : List Window → List Landmark → Stream
+abbrev pub stream : List Window → List Landmark → Stream
 stream windows landmarks = record { number = 0; name = codes "a"; params = exp 2 1 1; windows = windows; landmarks = landmarks }
 
 -- what is made for an end of an answer over a range
-abbrev made : Stream → Kind → End → ℕ → ℕ → Evidence
+abbrev pub made : Stream → Kind → End → ℕ → ℕ → Evidence
 made s kind end from to = evidence_of kind end (seen_of kind from to s)
 
-abbrev evidence : ℤ → ℤ → List Cert → Evidence
-evidence answer base certs = record { answer = answer; base = base; certs = record { items = certs } }
+abbrev pub evidence : Answer → ℤ → ℕ → List Cert → Evidence
+evidence answer sum count certs = record { answer = answer; known = record { over = sum; under = count }; certs = record { items = certs } }
 
 -- the windows of the readings 5, -3, 8, 1, 9, 2 and 7 at the times 10 to 70
-readings : Stream
+pub readings : Stream
 readings = stream (window 1 4 (pos 11) (negsuc 2) (pos 8) 10 40 ∷ window 5 2 (pos 11) (pos 2) (pos 9) 50 60 ∷ window 7 1 (pos 7) (pos 7) (pos 7) 70 70 ∷ []) []
 
 -- their first window and the next one, each with one of its ends in the range
@@ -65,29 +67,29 @@ next_window inside outside = record {
 }
 
 readings-least_sum : made readings Sum Lo 10 25 ≡
-    evidence (negsuc 4) (pos 0) (first_window 2 (run (negsuc 2) 1 ∷ run (negsuc 1) 1 ∷ []) (run (pos 8) 2 ∷ []) ∷ [])
+    evidence (answers.Sum (negsuc 4)) (pos 0) 0 (first_window 2 (run (negsuc 2) 1 ∷ run (negsuc 1) 1 ∷ []) (run (pos 8) 2 ∷ []) ∷ [])
 unfolding readings sum_interval least_sum_at fill
 readings-least_sum = refl
 
 readings-greatest_sum : made readings Sum Hi 25 55 ≡
-    evidence (pos 25) (pos 0)
+    evidence (answers.Sum (pos 25)) (pos 0) 0
     (first_window 2 (run (pos 8) 2 ∷ []) (run (negsuc 2) 1 ∷ run (negsuc 1) 1 ∷ []) ∷ next_window (run (pos 9) 1 ∷ []) (run (pos 2) 1 ∷ []) ∷ [])
 unfolding readings sum_interval greatest_sum_at fill
 readings-greatest_sum = refl
 
-readings-least_count : made readings Count Lo 10 40 ≡ evidence (pos 4) (pos 4) []
+readings-least_count : made readings Count Lo 10 40 ≡ evidence (answers.Count 4) (pos 11) 4 []
 unfolding readings fill
 readings-least_count = refl
 
 readings-greatest_count : made readings Count Hi 25 55 ≡
-    evidence (pos 4) (pos 0)
+    evidence (answers.Count 4) (pos 0) 0
     (first_window 3 (run (negsuc 2) 1 ∷ run (negsuc 1) 1 ∷ run (pos 8) 1 ∷ []) (run (pos 8) 1 ∷ [])
     ∷ next_window (run (pos 2) 1 ∷ []) (run (pos 9) 1 ∷ []) ∷ [])
 unfolding readings fill
 readings-greatest_count = refl
 
 -- and this is told
-abbrev ended : List ℕ → List ℕ
+abbrev pub ended : List ℕ → List ℕ
 ended text = text ++ 10 ∷ []
 
 readings-least_sum_told : map reply_line (told (made readings Sum Lo 10 25)) ≡
@@ -123,23 +125,23 @@ parted ends free_in free_out x inside outside = record {
 
 -- neither end of the window lies in the range, and few of its times do
 around-least_sum : made around Sum Lo 18 24 ≡
-    evidence (pos 92) (pos 100) (parted 0 4 31 2 (run (negsuc 3) 2 ∷ []) (run (pos 4) 1 ∷ run (pos 9) 4 ∷ []))
+    evidence (answers.Sum (pos 92)) (pos 100) 1 (parted 0 4 31 2 (run (negsuc 3) 2 ∷ []) (run (pos 4) 1 ∷ run (pos 9) 4 ∷ []))
 unfolding around sum_interval least_sum_at fill
 around-least_sum = refl
 
 around-greatest_sum : made around Sum Hi 18 24 ≡
-    evidence (pos 136) (pos 100) (parted 0 4 31 4 (run (pos 9) 4 ∷ []) (run (negsuc 3) 2 ∷ run (pos 4) 1 ∷ []))
+    evidence (answers.Sum (pos 136)) (pos 100) 1 (parted 0 4 31 4 (run (pos 9) 4 ∷ []) (run (negsuc 3) 2 ∷ run (pos 4) 1 ∷ []))
 unfolding around sum_interval greatest_sum_at fill
 around-greatest_sum = refl
 
 -- nearly all free times lie in the range, so most of the values do
 around-least_count : made around Count Lo 11 49 ≡
-    evidence (pos 6) (pos 1) (parted 0 35 0 5 (run (negsuc 3) 2 ∷ run (pos 4) 1 ∷ run (pos 9) 2 ∷ []) (run (pos 9) 2 ∷ []))
+    evidence (answers.Count 6) (pos 100) 1 (parted 0 35 0 5 (run (negsuc 3) 2 ∷ run (pos 4) 1 ∷ run (pos 9) 2 ∷ []) (run (pos 9) 2 ∷ []))
 unfolding around fill
 around-least_count = refl
 
 around-least_sum_late : made around Sum Lo 12 60 ≡
-    evidence (pos 114) (pos 100) (parted 1 34 1 5 (run (negsuc 3) 2 ∷ run (pos 4) 1 ∷ run (pos 9) 2 ∷ []) (run (pos 9) 2 ∷ []))
+    evidence (answers.Sum (pos 114)) (pos 100) 1 (parted 1 34 1 5 (run (negsuc 3) 2 ∷ run (pos 4) 1 ∷ run (pos 9) 2 ∷ []) (run (pos 9) 2 ∷ []))
 unfolding around sum_interval least_sum_at fill
 around-least_sum_late = refl
 

@@ -1,6 +1,6 @@
 -- What certificates have in the range are values that fit the windows that it splits, and so evidence shows an answer that may be
 -- the true one.
-use Rattle.std.specs.Prelude.{◌≡◌, ℕ, ◌+◌, ◌≤◌, ℤ, pos, ◌+ℤ◌, true, IsTrue, List, [], ◌∷◌, length, map, All}
+use Rattle.std.specs.Prelude.{◌≡◌, ℕ, ◌+◌, ◌≤◌, true, IsTrue, List, [], ◌∷◌, length, map, All}
 use Rattle.std.specs.Prelude.{Option, None, Some, IfSome, option_map}
 use Rattle.std.specs.List.{filter, list_all}
 use Rattle.std.proofs.Common.{ap, ap₂, arith, refl, sym, subst, ◌∙◌}
@@ -8,23 +8,22 @@ use Rattle.std.proofs.lemmas.Bool.{and_parts}
 use Rattle.std.proofs.lemmas.Int.{ints}
 use Rattle.std.proofs.lemmas.List.Elements.{All-cons, All-filter, All-head, All-map, All-nil, All-tail, filter_passes}
 use Rattle.std.proofs.lemmas.List.Sums.{sum_by-cons}
+use Rattle.ss_bounds.specs.declared.fraction.Fraction.{Fraction}
 use Rattle.ss_bounds.specs.Extremes.{listed}
+use Rattle.ss_bounds.specs.Means.{with_values}
+use Rattle.ss_bounds.proofs.BestLemmas.{fraction-is, with_values-none}
 use Rattle.ss_bounds.specs.Split.{IsSplit, SplitFigures, greatest_count, least_count}
-use Rattle.ss_bounds.specs.Truth.{total}
 use Rattle.ss_catalog.specs.declared.query.End.{End}
-use Rattle.ss_catalog.specs.declared.query.End.TheVariants.{Lo, Hi}
 use Rattle.ss_catalog.specs.declared.query.Kind.{Kind}
-use Rattle.ss_catalog.specs.declared.query.Kind.TheVariants as kinds
 use Rattle.ss_catalog.specs.declared.query.Query.{Query}
-use Rattle.ss_laws.specs.Attained.{MayBeTrue}
+use Rattle.ss_laws.specs.Contents.{contents_of}
 use Rattle.ss_laws.specs.Sides.{AllFit, FitSplit, Sides, count_inside, sum_inside}
-use Rattle.ss_laws.proofs.ContentsLemmas.{MayBeTrue-count, MayBeTrue-sum}
+use Rattle.ss_laws.proofs.ContentsLemmas.{IsAttained-named}
 use Rattle.ss_landmarks.specs.Free.{is_free}
 use Rattle.ss_landmarks.specs.Landmark.{Landmark}
 use Rattle.ss_model.specs.History.{Happened}
 use Rattle.ss_model.specs.Answers.{answer_of, outcome_of}
-use Rattle.ss_model.specs.Interval.{is_split, split_figures, split_windows}
-use Rattle.ss_model.specs.Interval as intervals
+use Rattle.ss_model.specs.Interval.{is_split, known_values, split_figures, split_windows}
 use Rattle.ss_model.specs.Marks.{lies_free, marked_values}
 use Rattle.ss_model.specs.Refusals.{IsHistory}
 use Rattle.ss_model.specs.Standing.{IsStream}
@@ -33,7 +32,7 @@ use Rattle.ss_model.specs.Tiling.{StandFrom}
 use Rattle.ss_model.specs.declared.outcome.Outcome.{Outcome}
 use Rattle.ss_model.specs.declared.types.Window.{Window}
 use Rattle.ss_model.proofs.HistoryLemmas.{IsState-state}
-use Rattle.ss_query.specs.Asked.{HasCuts, IsCut, cut_of, outcome_seen, seen_of}
+use Rattle.ss_query.specs.Asked.{HasCuts, IsCut, cut_of, seen_of, values_seen}
 use Rattle.ss_query.specs.declared.asking.Seen.{Seen}
 use Rattle.ss_query.specs.declared.cut.Cut.{Cut}
 use Rattle.ss_query.proofs.Outcomes.{seen_count-seen, seen_sum-seen, outcome_seen-seen_of}
@@ -42,7 +41,8 @@ use Rattle.ss_model.proofs.SplitLemmas.{IsSplit-window}
 pub use Rattle.ss_model.proofs.RisingLemmas.{All-named}
 use Rattle.ss_summary.specs.Figures.{IsPossible}
 use Rattle.ss_certify.specs.Checked.{Certifies, inside_of, outside_of}
-use Rattle.ss_certify.specs.Evidence.{AllCertify, IsEvidence, base_of, cuts_of, end_asked, certified_sum}
+use Rattle.ss_certify.specs.Evidence.{AllCertify, IsEvidence, answer_from, certified, cuts_of, end_asked, with_certified}
+use Rattle.ss_certify.specs.Shown.{IsAnswerOfLike, MayBeAnswer}
 use Rattle.ss_certify.specs.declared.evidence.Cert.{Cert}
 use Rattle.ss_certify.specs.declared.evidence.Evidence.{Evidence}
 use Rattle.ss_certify.proofs.BetweenLemmas.{between-first, between-last}
@@ -82,20 +82,20 @@ AllFit-certifies (cut ∷ cuts) (c ∷ certs) split certify =
     let P : Cut → Type 0 = λ one. IsSplit one.split in
     (FitSplit-certifies cut c (All-head P cut cuts split) certify.0, AllFit-certifies cuts certs (All-tail P cut cuts split) certify.1)
 
--- what the certificates add to what is known is what these values are in number, or in sum
-pub parts_of-Count : (cuts : List Cut) (certs : List Cert) → AllCertify cuts certs
-    → certified_sum kinds.Count certs ≡ pos (count_inside (map sides_of certs))
-parts_of-Count [] [] certify = refl
-parts_of-Count [] (c ∷ certs) certify = absurd certify
-parts_of-Count (cut ∷ cuts) [] certify = absurd certify
-parts_of-Count (cut ∷ cuts) (c ∷ certs) certify =
-    let one = sum_by-cons (λ (v : Sides). length v.inside) (sides_of c) (map sides_of certs) in
-    let rest = parts_of-Count cuts certs certify.1 in
-    omega (arith, ints, certify.0.inside_count)
+-- how many of these values lie inside in all, and their sum
+abbrev pub values_inside : List Sides → Fraction
+values_inside sides = record { over = sum_inside sides; under = count_inside sides }
 
-pub parts_of-Sum : (certs : List Cert) → certified_sum kinds.Sum certs ≡ sum_inside (map sides_of certs)
-parts_of-Sum [] = refl
-parts_of-Sum (c ∷ certs) = ap (λ z. total (inside_of c) +ℤ z) (parts_of-Sum certs)
+-- what the certificates add to what is known is what these values are
+pub certified-values : (known : Fraction) (cuts : List Cut) (certs : List Cert) → AllCertify cuts certs
+    → with_certified known certs ≡ with_values known (values_inside (map sides_of certs))
+certified-values known [] [] certify = with_values-none known
+certified-values known [] (c ∷ certs) certify = absurd certify
+certified-values known (cut ∷ cuts) [] certify = absurd certify
+certified-values known (cut ∷ cuts) (c ∷ certs) certify =
+    let one = sum_by-cons (λ (v : Sides). length v.inside) (sides_of c) (map sides_of certs) in
+    certified-values (with_values known (certified c)) cuts certs certify.1
+    ∙ fraction-is _ _ (omega (arith, ints)) (omega (arith, certify.0.inside_count, one))
 
 -- ---- what is known of a stream
 
@@ -152,11 +152,10 @@ module _ (kind : Kind) (from to : ℕ) (s : Stream) (is : IsStream s) where
   pub figures-seen_of : map (λ (cut : Cut). cut.split) (cuts_of (seen_of kind from to s)) ≡ split_windows (is_free s.landmarks) from to s.windows
   figures-seen_of = ap (map (λ (cut : Cut). cut.split)) cuts_of-seen_of ∙ figures-cuts split
 
-  pub base_of-Count : base_of kinds.Count (seen_of kind from to s) ≡ pos (intervals.known_count from to s.windows (marked_values s.landmarks))
-  base_of-Count = ap pos (seen_count-seen s.landmarks kind from to (seen_of kind from to s) s.windows (IsSeen-seen_of kind from to s is))
-
-  pub base_of-Sum : base_of kinds.Sum (seen_of kind from to s) ≡ intervals.known_sum from to s.windows (marked_values s.landmarks)
-  base_of-Sum = seen_sum-seen s.landmarks kind from to (seen_of kind from to s) s.windows (IsSeen-seen_of kind from to s is)
+  pub values-seen_of : values_seen (seen_of kind from to s) ≡ known_values from to s.windows (marked_values s.landmarks)
+  values-seen_of = fraction-is _ _
+      (seen_sum-seen s.landmarks kind from to (seen_of kind from to s) s.windows (IsSeen-seen_of kind from to s is))
+      (seen_count-seen s.landmarks kind from to (seen_of kind from to s) s.windows (IsSeen-seen_of kind from to s is))
 
   -- certificates of the cut windows have values that fit those that the range splits
   pub AllFit-seen_of : (certs : List Cert) → AllCertify (cuts_of (seen_of kind from to s)) certs
@@ -170,60 +169,33 @@ module _ (kind : Kind) (from to : ℕ) (s : Stream) (is : IsStream s) where
 pub IsStream-named : (history : List Happened) (name : List ℕ) (s : Stream) → IsHistory history → stream_named name (state history) ≡ Some s → IsStream s
 IsStream-named history name s whole = All-named IsStream name (state history) s (IsState-state history whole).each
 
--- only an answer of count or of sum has ends that are numbers
-module _ (seen : Seen) (z : ℤ) where
-  no-end-Min : (end : End) → end_asked end (outcome_seen kinds.Min seen) ≡ Some z → ⊥
-  no-end-Min Lo some = cc
-  no-end-Min Hi some = cc
-
-  no-end-Max : (end : End) → end_asked end (outcome_seen kinds.Max seen) ≡ Some z → ⊥
-  no-end-Max Lo some = cc
-  no-end-Max Hi some = cc
-
-  no-end-Has : (value : ℤ) (end : End) → end_asked end (outcome_seen (kinds.Has value) seen) ≡ Some z → ⊥
-  no-end-Has value Lo some = cc
-  no-end-Has value Hi some = cc
-
-  no-end-CountGuess : (end : End) → end_asked end (outcome_seen kinds.CountGuess seen) ≡ Some z → ⊥
-  no-end-CountGuess Lo some = cc
-  no-end-CountGuess Hi some = cc
-
-  no-end-SumGuess : (end : End) → end_asked end (outcome_seen kinds.SumGuess seen) ≡ Some z → ⊥
-  no-end-SumGuess Lo some = cc
-  no-end-SumGuess Hi some = cc
-
 module _ (streams : List Stream) (query : Query) (s : Stream) (end : End) (w : Evidence) (found : stream_named query.name streams ≡ Some s)
     (evidence : IsEvidence query.kind end (seen_of query.kind query.from query.to s) w) where
   abbrev seen : Seen
   seen = seen_of query.kind query.from query.to s
 
   module _ (is : IsStream s) where
-    adds-up : (kind : Kind) → query.kind ≡ kind → w.answer ≡ (base_of kind seen +ℤ certified_sum kind w.certs.items)
-    adds-up kind same =
-        evidence.adds_up ∙ ap (λ z. z +ℤ certified_sum query.kind w.certs.items) evidence.base
-        ∙ ap (λ k. base_of k seen +ℤ certified_sum k w.certs.items) same
+    abbrev sides : List Sides
+    sides = map sides_of w.certs.items
 
-    fit : AllFit (split_windows (is_free s.landmarks) query.from query.to s.windows) (map sides_of w.certs.items)
+    fit : AllFit (split_windows (is_free s.landmarks) query.from query.to s.windows) sides
     fit = AllFit-seen_of query.kind query.from query.to s is w.certs.items evidence.certificates
 
-    may-be_true : (kind : Kind) → query.kind ≡ kind → MayBeTrue streams query w.answer
-    may-be_true kinds.Count same =
-        let answer = adds-up kinds.Count same
-        ∙ ap₂ (λ y z. y +ℤ z) (base_of-Count query.kind query.from query.to s is) (parts_of-Count (cuts_of seen) w.certs.items evidence.certificates) in
-        subst (MayBeTrue streams query) (sym answer) (MayBeTrue-count streams query s (map sides_of w.certs.items) found fit same)
-    may-be_true kinds.Sum same =
-        let answer = adds-up kinds.Sum same ∙ ap₂ (λ y z. y +ℤ z) (base_of-Sum query.kind query.from query.to s is) (parts_of-Sum w.certs.items) in
-        subst (MayBeTrue streams query) (sym answer) (MayBeTrue-sum streams query s (map sides_of w.certs.items) found fit same)
-    may-be_true kinds.Min same =
-        absurd (no-end-Min seen w.answer end (sym (ap (λ k. end_asked end (outcome_seen k seen)) same) ∙ evidence.asked))
-    may-be_true kinds.Max same =
-        absurd (no-end-Max seen w.answer end (sym (ap (λ k. end_asked end (outcome_seen k seen)) same) ∙ evidence.asked))
-    may-be_true (kinds.Has value) same =
-        absurd (no-end-Has seen w.answer value end (sym (ap (λ k. end_asked end (outcome_seen k seen)) same) ∙ evidence.asked))
-    may-be_true kinds.CountGuess same =
-        absurd (no-end-CountGuess seen w.answer end (sym (ap (λ k. end_asked end (outcome_seen k seen)) same) ∙ evidence.asked))
-    may-be_true kinds.SumGuess same =
-        absurd (no-end-SumGuess seen w.answer end (sym (ap (λ k. end_asked end (outcome_seen k seen)) same) ∙ evidence.asked))
+    all-values : with_certified w.known w.certs.items
+        ≡ with_values (known_values query.from query.to s.windows (marked_values s.landmarks)) (values_inside sides)
+    all-values =
+        certified-values w.known (cuts_of seen) w.certs.items evidence.certificates
+        ∙ ap (λ k. with_values k (values_inside sides)) (evidence.known ∙ values-seen_of query.kind query.from query.to s is)
+
+    is-answer : (history : List Happened) → IsHistory history → state history ≡ streams → IsAnswerOfLike (contents_of history s) query w.answer
+    is-answer history whole is_state =
+        let at = IsAttained-named history query.name s query.from query.to sides whole (ap (stream_named query.name) is_state ∙ found) fit in
+        record {
+          contents = at.contents;
+          sound = at.sound;
+          like = at.like;
+          truth = ap (answer_from query.kind) (fraction-is _ _ at.sums at.counts ∙ sym all-values) ∙ sym evidence.answers;
+        }
 
     pub end_asked-answer : (outcome : Outcome) → outcome_of streams query ≡ Some outcome → end_asked end outcome ≡ Some w.answer
     unfolding outcome_of
@@ -233,6 +205,9 @@ module _ (streams : List Stream) (query : Query) (s : Stream) (end : End) (w : E
         ap (end_asked end) (sym (outcome_seen-seen_of query s is ∙ same)) ∙ evidence.asked
 
   -- each stream of a history is one as it has to be
-  pub MayBeTrue-answer : MayBeTrue streams query w.answer
-  MayBeTrue-answer history u whole is other =
-      may-be_true (IsStream-named history query.name s whole (ap (stream_named query.name) is ∙ found)) query.kind refl history u whole is other
+  pub MayBeAnswer-answer : MayBeAnswer streams query w.answer
+  MayBeAnswer-answer history u whole is other =
+      let both : Some s ≡ Some u = sym found ∙ other in
+      let same : s ≡ u = cc in
+      subst (λ x. IsAnswerOfLike (contents_of history x) query w.answer) same
+      (is-answer (IsStream-named history query.name s whole (ap (stream_named query.name) is ∙ found)) history whole is)

@@ -4,6 +4,10 @@ use Rattle.std.proofs.Common.{◌≤◌, ◌∙◌, ap, arith, length, lit≤, r
 use Rattle.std.proofs.lemmas.Int.{ints}
 use Rattle.std.proofs.lemmas.List.Elements.{All-cons, All-head, All-nil, All-tail}
 use Rattle.std.proofs.lemmas.Option.{same_Some}
+use Rattle.ss_bounds.specs.declared.fraction.Fraction.{Fraction}
+use Rattle.ss_bounds.specs.declared.mean.Mean.TheVariants.{Sure}
+use Rattle.ss_bounds.specs.Fractions.{lowest}
+use Rattle.ss_bounds.specs.Means.{mean_interval}
 use Rattle.ss_bounds.specs.Split.{SplitFigures, sum_interval}
 use Rattle.ss_targets.specs.Windowing.{window_index}
 use Rattle.ss_catalog.specs.declared.event.Event.TheVariants.{Create, Value}
@@ -19,7 +23,7 @@ use Rattle.ss_model.specs.History.{Happened, added}
 use Rattle.ss_model.specs.Answers.{outcome_of}
 use Rattle.ss_model.specs.Refusals.{IsHistory}
 use Rattle.ss_model.specs.State.{Stream, state}
-use Rattle.ss_model.specs.declared.outcome.Outcome.TheVariants.{Count, Sum}
+use Rattle.ss_model.specs.declared.outcome.Outcome.TheVariants.{Count, Sum, Mean}
 use Rattle.ss_model.specs.declared.types.Run.{Run}
 use Rattle.ss_query.specs.Asked.{seen_of}
 use Rattle.ss_query.specs.declared.cut.Cut.{Cut}
@@ -29,10 +33,12 @@ use Rattle.ss_certify.specs.Checked.{Certifies}
 use Rattle.ss_certify.specs.Evidence.{AllCertify, IsEvidence, cuts_of}
 use Rattle.ss_certify.specs.Fill.{run}
 use Rattle.ss_certify.specs.Runs.{HaveValues, values_of_runs}
+use Rattle.ss_certify.specs.Shown.{MayBeAnswer}
+use Rattle.ss_certify.specs.declared.evidence.Answer.TheVariants as answers
 use Rattle.ss_certify.specs.declared.evidence.Cert.{Cert}
 use Rattle.ss_certify.specs.declared.evidence.Evidence.{Evidence}
-use Rattle.ss_certify.proofs.SharpAnswers.{MayBeTrue-counts, MayBeTrue-sums}
-use Rattle.ss_certify.proofs.SharpLemmas.{MayBeTrue-answer}
+use Rattle.ss_certify.proofs.SharpAnswers.{MayBeAnswer-means, MayBeTrue-counts, MayBeTrue-sums}
+use Rattle.ss_certify.proofs.SharpLemmas.{MayBeAnswer-answer}
 
 abbrev a : List ℕ
 a = codes "a"
@@ -136,15 +142,18 @@ Certifies-least = record {
 }
 
 -- so -5 is the least sum from 10 to 25, with nothing known exactly
-abbrev evidence : ℤ → ℤ → List Cert → Evidence
-evidence answer base certs = record { answer = answer; base = base; certs = record { items = certs } }
+abbrev evidence : ℤ → Fraction → List Cert → Evidence
+evidence sum known certs = record { answer = answers.Sum sum; known = known; certs = record { items = certs } }
 
-IsEvidence-least : IsEvidence kinds.Sum Lo (seen_of kinds.Sum 10 25 readings) (evidence (negsuc 4) (pos 0) (least ∷ []))
+abbrev nothing : Fraction
+nothing = record { over = pos 0; under = 0 }
+
+IsEvidence-least : IsEvidence kinds.Sum Lo (seen_of kinds.Sum 10 25 readings) (evidence (negsuc 4) nothing (least ∷ []))
 unfolding sum_interval
 IsEvidence-least = record {
   certificates = (Certifies-least, tt);
-  base = refl;
-  adds_up = refl;
+  known = refl;
+  answers = refl;
   asked = refl;
 }
 
@@ -173,39 +182,48 @@ Certifies-other_runs = record {
   sum = refl;
 }
 
-IsEvidence-other_runs : IsEvidence kinds.Sum Lo (seen_of kinds.Sum 10 25 readings) (evidence (negsuc 4) (pos 0) (other_runs ∷ []))
+IsEvidence-other_runs : IsEvidence kinds.Sum Lo (seen_of kinds.Sum 10 25 readings) (evidence (negsuc 4) nothing (other_runs ∷ []))
 unfolding sum_interval
 IsEvidence-other_runs = record {
   certificates = (Certifies-other_runs, tt);
-  base = refl;
-  adds_up = refl;
+  known = refl;
+  answers = refl;
   asked = refl;
 }
 
 -- and it may be the true one
-MayBeTrue-least : MayBeTrue (state history) (query kinds.Sum 10 25) (negsuc 4)
+MayBeAnswer-least : MayBeAnswer (state history) (query kinds.Sum 10 25) (answers.Sum (negsuc 4))
 unfolding state window_index bit_of filter_of union
-MayBeTrue-least =
-    MayBeTrue-answer (state history) (query kinds.Sum 10 25) readings Lo (evidence (negsuc 4) (pos 0) (least ∷ [])) refl IsEvidence-least
+MayBeAnswer-least =
+    MayBeAnswer-answer (state history) (query kinds.Sum 10 25) readings Lo (evidence (negsuc 4) nothing (least ∷ [])) refl IsEvidence-least
 
 -- from 10 to 40 the first window lies whole in the range: its 4 values are known, and nothing else is to be shown
-IsEvidence-whole : IsEvidence kinds.Count Lo (seen_of kinds.Count 10 40 readings) (evidence (pos 4) (pos 4) [])
+IsEvidence-whole : IsEvidence kinds.Count Lo (seen_of kinds.Count 10 40 readings) (record { answer = answers.Count 4; known = record { over = pos 11; under = 4 }; certs = record { items = [] } })
 IsEvidence-whole = record {
   certificates = tt;
-  base = refl;
-  adds_up = refl;
+  known = refl;
+  answers = refl;
   asked = refl;
 }
 
--- one number that is another shows nothing: an answer, a base, an end, a value, how often it occurs
-answer-other : (base : ℤ) (certs : List Cert) → IsEvidence kinds.Sum Lo (seen_of kinds.Sum 10 25 readings) (evidence (negsuc 3) base certs) → ⊥
+-- one number that is another shows nothing: an answer, what is known, an end, a value, how often it occurs
+answer-other : (known : Fraction) (certs : List Cert) → IsEvidence kinds.Sum Lo (seen_of kinds.Sum 10 25 readings) (evidence (negsuc 3) known certs) → ⊥
 unfolding sum_interval
-answer-other base certs is = let asked = is.asked in cc
+answer-other known certs is = let asked = is.asked in cc
 
-base-other : (answer : ℤ) (certs : List Cert) → IsEvidence kinds.Sum Lo (seen_of kinds.Sum 10 25 readings) (evidence answer (pos 1) certs) → ⊥
-base-other answer certs is = let base = is.base in omega (arith, ints)
+known-sum_other : (answer : ℤ) (known : Fraction) (certs : List Cert) → known.over ≡ pos 1
+    → IsEvidence kinds.Sum Lo (seen_of kinds.Sum 10 25 readings) (evidence answer known certs) → ⊥
+known-sum_other answer known certs one is = let sum = ap (λ (v : Fraction). v.over) is.known in omega (arith, ints)
 
-end-other : IsEvidence kinds.Sum Hi (seen_of kinds.Sum 10 25 readings) (evidence (negsuc 4) (pos 0) (least ∷ [])) → ⊥
+known-count_other : (answer : ℤ) (known : Fraction) (certs : List Cert) → known.under ≡ 1
+    → IsEvidence kinds.Sum Lo (seen_of kinds.Sum 10 25 readings) (evidence answer known certs) → ⊥
+known-count_other answer known certs one is = let count = ap (λ (v : Fraction). v.under) is.known in omega arith
+
+-- a count in place of a sum shows nothing
+kind-other : (n : ℕ) (w : Evidence) → w.answer ≡ answers.Count n → IsEvidence kinds.Sum Lo (seen_of kinds.Sum 10 25 readings) w → ⊥
+kind-other n w count is = let there = sym count ∙ is.answers in cc
+
+end-other : IsEvidence kinds.Sum Hi (seen_of kinds.Sum 10 25 readings) (evidence (negsuc 4) nothing (least ∷ [])) → ⊥
 unfolding sum_interval
 end-other is = let asked = is.asked in cc
 
@@ -247,9 +265,9 @@ x-other c same three is = let count = ap (λ runs. length (values_of_runs runs))
 cuts-25-55 : map (λ (cut : Cut). cut.first) (cuts_of (seen_of kinds.Sum 25 55 readings)) ≡ 1 ∷ 5 ∷ []
 cuts-25-55 = refl
 
-exchanged : (answer base : ℤ) (earlier later : Cert) → earlier.first ≡ 1 → later.first ≡ 5
-    → IsEvidence kinds.Sum Hi (seen_of kinds.Sum 25 55 readings) (evidence answer base (later ∷ earlier ∷ [])) → ⊥
-exchanged answer base earlier later one five is = let first = is.certificates.0.first in omega arith
+exchanged : (answer : ℤ) (known : Fraction) (earlier later : Cert) → earlier.first ≡ 1 → later.first ≡ 5
+    → IsEvidence kinds.Sum Hi (seen_of kinds.Sum 25 55 readings) (evidence answer known (later ∷ earlier ∷ [])) → ⊥
+exchanged answer known earlier later one five is = let first = is.certificates.0.first in omega arith
 
 -- ---- the ends of answers
 
@@ -266,6 +284,22 @@ counts-25-55 = MayBeTrue-counts (state history) (query kinds.Count 25 55) 2 4 re
 sums-25-55 : MayBeTrue (state history) (query kinds.Sum 25 55) (negsuc 2) × MayBeTrue (state history) (query kinds.Sum 25 55) (pos 25)
 unfolding outcome_of state window_index sum_interval
 sums-25-55 = MayBeTrue-sums (state history) (query kinds.Sum 25 55) (negsuc 2) (pos 25) refl
+
+-- their mean is from -1 to 17/2
+abbrev whole : ℤ → Fraction
+whole z = record { over = z; under = 1 }
+
+mean-25-55 : outcome_of (state history) (query kinds.Mean 25 55) ≡ Some (Mean (Sure (whole (negsuc 0)) (record { over = pos 17; under = 2 })))
+unfolding outcome_of state window_index mean_interval lowest
+mean-25-55 = refl
+
+means-25-55 : MayBeAnswer (state history) (query kinds.Mean 25 55) (answers.Mean (Some (whole (negsuc 0))))
+    × MayBeAnswer (state history) (query kinds.Mean 25 55) (answers.Mean (Some (record { over = pos 17; under = 2 })))
+means-25-55 =
+    let known = Sure (whole (negsuc 0)) (record { over = pos 17; under = 2 }) in (
+      MayBeAnswer-means (state history) (query kinds.Mean 25 55) known Lo mean-25-55,
+      MayBeAnswer-means (state history) (query kinds.Mean 25 55) known Hi mean-25-55,
+    )
 
 -- nothing outside an answer may be true
 sum-outside : IsHistory history → MayBeTrue (state history) (query kinds.Sum 25 55) (pos 26) → ⊥

@@ -1,34 +1,12 @@
 -- What the code computes of sums is these sums.
-use Rattle.std.specs.Prelude.{◌≡◌, ℕ, ◌-◌, ◌≤◌, ℤ, pos, ◌-ℤ◌, ◌*ℤ◌, ◌≤ℤ◌, FitsSigned}
+use Rattle.std.specs.Prelude.{◌≡◌, ℕ, ◌-◌, ℤ, pos, ◌-ℤ◌, ◌*ℤ◌, ◌≤ℤ◌, FitsSigned}
 use Rattle.std.proofs.Common.{ap, ap₂, arith, subst, sym, ◌∙◌}
 use Rattle.std.proofs.lemmas.Int.{ints, to_z-of_z}
 use Rattle.std.specs.Int.{w64, w128}
 use Rattle.ss_bounds.specs.Parted.{CanBeParted}
-use Rattle.ss_bounds.specs.Split.{IsSplit, SplitFigures, high_sum, low_sum}
-use Rattle.ss_bounds.proofs.Held.{held, held-is, held64, low_sum-fits, low_sum-small, sum-fits, sum-small}
-use Rattle.ss_bounds.proofs.LeastLemmas.{high_sum-rest}
+use Rattle.ss_bounds.specs.Split.{IsSplit, SplitFigures}
+use Rattle.ss_bounds.proofs.Held.{held, held-is, held64, sum-fits}
 use Rattle.ss_bounds.proofs.Numbers.{times-down, times-up}
-
--- the greatest sum, by the least one of the others
-module _ (s : SplitFigures) (split : IsSplit s) (x : ℕ) (within : x ≤ s.count) (low : ℤ) (low_is : low ≡ low_sum s (s.count - x)) where
-  high-is : (held s.sum -ℤ held low) ≡ high_sum s x
-  high-is =
-      let sum = to_z-of_z w128 s.sum (sum-fits s split) in
-      let rest = held-is low _ low_is (low_sum-fits s split (s.count - x) (omega arith)) in
-      ap₂ (λ a b. a -ℤ b) sum rest ∙ sym (high_sum-rest s x within)
-
-  high-fits : FitsSigned w128 (high_sum s x)
-  high-fits =
-      let is = high_sum-rest s x within in
-      let all = sum-small s split in
-      let rest = low_sum-small s split (s.count - x) (omega arith) in
-      omega (arith, ints)
-
-  pub computed-high_fits : FitsSigned w128 (held s.sum -ℤ held low)
-  computed-high_fits = subst (FitsSigned w128) (sym high-is) high-fits
-
-  pub computed-high_sum : held (held s.sum -ℤ held low) ≡ high_sum s x
-  computed-high_sum = held-is _ _ high-is high-fits
 
 -- what is left of the sum for the values outside the range
 module _ (s : SplitFigures) (split : IsSplit s) (x : ℕ) (sum : ℤ) (fits : FitsSigned w128 sum) (can : CanBeParted s x sum) where

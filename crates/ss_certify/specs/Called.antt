@@ -3,7 +3,6 @@ use Rattle.std.specs.Prelude.{◌≡◌, ◌↔◌, Bool, true, IsTrue, IfOk, If
 use Rattle.std.specs.Option.{option_map}
 use Rattle.ss_catalog.specs.declared.query.End.{End}
 use Rattle.ss_catalog.specs.declared.query.Query.{Query}
-use Rattle.ss_laws.specs.Attained.{MayBeTrue}
 use Rattle.ss_model.specs.Answers.{outcome_of}
 use Rattle.ss_model.specs.State.{Stream, stream_named}
 use Rattle.ss_outside.specs.Crash.{OnlyReads}
@@ -14,6 +13,7 @@ use Rattle.ss_store.specs.Recover.{Recovers}
 use Rattle.ss_store.specs.declared.error.AskError.{AskError}
 use Rattle.ss_certify.specs.Evidence.{IsEvidence, end_asked}
 use Rattle.ss_certify.specs.Made.{evidence_of}
+use Rattle.ss_certify.specs.Shown.{MayBeAnswer}
 use Rattle.ss_certify.specs.declared.evidence.Evidence.{Evidence}
 
 -- the evidence that a state has for an end of its answer, where the stream stands
@@ -36,7 +36,7 @@ pub record ChecksEvidence (was : RecordsState) (query : Query) (end : End) (w : 
   pub checked : (streams : List Stream) → Recovers streams (shown_by was old.content) → IfOk result (λ right.
       IfSome (stream_named query.name streams) (λ s. IsTrue right ↔ IsEvidence query.kind end (seen_of query.kind query.from query.to s) w))
   -- then its answer is the true one of contents like those of the stream, whatever history the state is of
-  pub sharp : (streams : List Stream) → Recovers streams (shown_by was old.content) → IfOk result (λ right. right ≡ true → MayBeTrue streams query w.answer)
+  pub sharp : (streams : List Stream) → Recovers streams (shown_by was old.content) → IfOk result (λ right. right ≡ true → MayBeAnswer streams query w.answer)
   -- and the asked end of what the state answers
   pub asked : (streams : List Stream) → Recovers streams (shown_by was old.content) → IfOk result (λ right. right ≡ true →
       IfSome (outcome_of streams query) (λ outcome. end_asked end outcome ≡ Some w.answer))

@@ -53,4 +53,4 @@ HasValues s c =
 
 -- it has no more values in the range than a window may have, so their sum is near
 abbrev pub HasFewInside : Cert → Type 0
-HasFewInside c = run_count c.inside.items ≤ MOST_VALUES
+HasFewInside c = (run_count c.inside.items ≤ MOST_VALUES) × (c.x ≤ MOST_VALUES)

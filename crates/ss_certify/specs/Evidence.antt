@@ -1,17 +1,24 @@
 -- Evidence for an end of an answer: what is known exactly, and a certificate of each window that the range splits.
-use Rattle.std.specs.Prelude.{◌≡◌, ℤ, pos, ◌+ℤ◌, List, [], ◌∷◌, map, Option, None, Some}
+use Rattle.std.specs.Prelude.{◌≡◌, List, [], ◌∷◌, Option, None, Some}
+use Rattle.ss_bounds.specs.declared.fraction.Fraction.{Fraction}
+use Rattle.ss_bounds.specs.declared.mean.Mean.{Mean}
+use Rattle.ss_bounds.specs.declared.mean.Mean.TheVariants as means
 use Rattle.ss_bounds.specs.Extremes.{listed}
+use Rattle.ss_bounds.specs.MeanAttained.{lowest_mean}
+use Rattle.ss_bounds.specs.Means.{with_values}
 use Rattle.ss_bounds.specs.Truth.{total}
 use Rattle.ss_catalog.specs.declared.query.End.{End}
 use Rattle.ss_catalog.specs.declared.query.End.TheVariants.{Lo, Hi}
 use Rattle.ss_catalog.specs.declared.query.Kind.{Kind}
 use Rattle.ss_catalog.specs.declared.query.Kind.TheVariants as kinds
 use Rattle.ss_model.specs.declared.outcome.Outcome.{Outcome}
-use Rattle.ss_model.specs.declared.outcome.Outcome.TheVariants.{Count, Sum, Min, Max, Has, Estimate}
-use Rattle.ss_query.specs.Asked.{seen_count, seen_sum, outcome_seen}
+use Rattle.ss_model.specs.declared.outcome.Outcome.TheVariants as outcomes
+use Rattle.ss_query.specs.Asked.{outcome_seen, values_seen}
 use Rattle.ss_query.specs.declared.asking.Seen.{Seen}
 use Rattle.ss_query.specs.declared.cut.Cut.{Cut}
 use Rattle.ss_certify.specs.Checked.{Certifies, inside_of}
+use Rattle.ss_certify.specs.declared.evidence.Answer.{Answer}
+use Rattle.ss_certify.specs.declared.evidence.Answer.TheVariants as answers
 use Rattle.ss_certify.specs.declared.evidence.Cert.{Cert}
 use Rattle.ss_certify.specs.declared.evidence.Evidence.{Evidence}
 
@@ -19,40 +26,41 @@ use Rattle.ss_certify.specs.declared.evidence.Evidence.{Evidence}
 abbrev pub cuts_of : Seen → List Cut
 cuts_of seen = listed seen.left seen.right
 
--- what is known exactly: how many values lie in the range, or their sum
-abbrev pub base_of : Kind → Seen → ℤ
-base_of kinds.Count seen = pos (seen_count seen.whole seen.marked)
-base_of kinds.Sum seen = seen_sum seen.whole seen.marked
-base_of kinds.Min seen = pos 0
-base_of kinds.Max seen = pos 0
-base_of (kinds.Has value) seen = pos 0
-base_of kinds.CountGuess seen = pos 0
-base_of kinds.SumGuess seen = pos 0
+-- the sum and the count of the values that a certificate has in the range
+abbrev pub certified : Cert → Fraction
+certified c = record { over = total (inside_of c); under = c.x }
 
--- what the values of a certificate in the range add to it
-abbrev pub certified_part : Kind → Cert → ℤ
-certified_part kinds.Count c = pos c.x
-certified_part kinds.Sum c = total (inside_of c)
-certified_part kinds.Min c = pos 0
-certified_part kinds.Max c = pos 0
-certified_part (kinds.Has value) c = pos 0
-certified_part kinds.CountGuess c = pos 0
-certified_part kinds.SumGuess c = pos 0
+-- of some values together with those that certificates have in the range
+abbrev pub with_certified : Fraction → List Cert → Fraction
+with_certified known [] = known
+with_certified known (c ∷ certs) = with_certified (with_values known (certified c)) certs
 
--- the same of some certificates
-abbrev pub certified_sum : Kind → List Cert → ℤ
-certified_sum kind certs = total (map (certified_part kind) certs)
+-- what is answered of some values, by their sum and count: their sum, their mean or else how many they are
+abbrev pub answer_from : Kind → Fraction → Answer
+answer_from kinds.Sum values = answers.Sum values.over
+answer_from kinds.Mean values = answers.Mean (lowest_mean values)
+answer_from kind values = answers.Count values.under
 
--- an end of an answer, as a number; none of an answer that isn't a count or a sum
-abbrev pub end_asked : End → Outcome → Option ℤ
-end_asked Lo (Count lo hi) = Some (pos lo)
-end_asked Hi (Count lo hi) = Some (pos hi)
-end_asked Lo (Sum lo hi) = Some lo
-end_asked Hi (Sum lo hi) = Some hi
-end_asked end (Min extreme) = None
-end_asked end (Max extreme) = None
-end_asked end (Has _) = None
-end_asked end (Estimate lo guess hi) = None
+-- an end of what is known of a mean, if there may be one
+abbrev pub mean_end : End → Mean → Option Fraction
+mean_end end means.Nothing = None
+mean_end Lo (means.Sure lo hi) = Some lo
+mean_end Hi (means.Sure lo hi) = Some hi
+mean_end Lo (means.Maybe lo hi) = Some lo
+mean_end Hi (means.Maybe lo hi) = Some hi
+
+-- an end of what is answered; nothing where there are no certificates of it
+abbrev pub end_asked : End → Outcome → Option Answer
+end_asked Lo (outcomes.Count lo hi) = Some (answers.Count lo)
+end_asked Hi (outcomes.Count lo hi) = Some (answers.Count hi)
+end_asked Lo (outcomes.Sum lo hi) = Some (answers.Sum lo)
+end_asked Hi (outcomes.Sum lo hi) = Some (answers.Sum hi)
+end_asked end (outcomes.Mean known) = Some (answers.Mean (mean_end end known))
+end_asked end (outcomes.Min extreme) = None
+end_asked end (outcomes.Max extreme) = None
+end_asked end (outcomes.Has _) = None
+end_asked end (outcomes.Estimate lo guess hi) = None
+end_asked end (outcomes.MeanEstimate guess) = None
 
 -- there is a certificate of each of these windows, in the same order
 abbrev pub AllCertify : List Cut → List Cert → Type 0
@@ -64,9 +72,9 @@ AllCertify (cut ∷ cuts) (c ∷ certs) = Certifies cut c × AllCertify cuts cer
 -- Evidence shows that an end of an answer can't be narrower, filters aside, from what is known of a stream.
 pub record IsEvidence (kind : Kind) (end : End) (seen : Seen) (w : Evidence) : Type 0 where
   pub certificates : AllCertify (cuts_of seen) w.certs.items
-  pub base : w.base ≡ base_of kind seen
-  -- what is known exactly and the values that the certificates have in the range add up to the answer
-  pub adds_up : w.answer ≡ (w.base +ℤ certified_sum kind w.certs.items)
+  pub known : w.known ≡ values_seen seen
+  -- what is known exactly and the values that the certificates have in the range have this answer
+  pub answers : w.answer ≡ answer_from kind (with_certified w.known w.certs.items)
   -- which is the end that was asked for
   pub asked : end_asked end (outcome_seen kind seen) ≡ Some w.answer
 

@@ -1,7 +1,7 @@
 // Evidence is made and checked over a store.
 ghost use Rattle.std.specs.Prelude.{◌≡◌, ◌↔◌, true, false, IsTrue, IfOk, IfSome, Err};
 ghost use Rattle.std.specs.List.{Contains};
-ghost use Rattle.ss_catalog.specs.Queries.{adds_up};
+ghost use Rattle.ss_catalog.specs.Queries.{is_certified};
 ghost use Rattle.ss_catalog.specs.declared.refusal.Refusal.{Refusal};
 ghost use Rattle.ss_outside.specs.Step.{Step};
 ghost use Rattle.ss_outside.specs.Verdict.{IfChanged, IfUndone};
@@ -21,7 +21,7 @@ use ss_catalog::{End, Query};
 use ss_outside::Disk;
 use ss_store::{AskError, Store};
 
-/// Makes the evidence for an end of the answer to a query of count or sum. Refusals and faults are those of `Store::ask`, and it
+/// Makes the evidence for an end of the answer to a query of count, sum or mean. Refusals and faults are those of `Store::ask`, and it
 /// leaves the disk and the store as that does. It takes no memory.
 pub fn make<D: Disk>(
     store: &mut Store,
@@ -29,7 +29,7 @@ pub fn make<D: Disk>(
     query: &Query,
     end: End,
 ) -> Result<Evidence, AskError>
-    requires kind { IsTrue (adds_up query.now.kind) }
+    requires kind { IsTrue (is_certified query.now.kind) }
     requires one_disk { StandsOn store.old (D.seen disk.old) }
     // The evidence of the state that is shown, with what is staged.
     ensures makes { Step (verdict_of_ask result) (D.seen disk.old) (D.seen disk.new) (MakesEvidence store.old.records query.now end result) }
@@ -49,7 +49,7 @@ pub fn make<D: Disk>(
 }
 
 /// Checks any evidence for an end of the answer to a query of count or sum: whether each window that the range splits has a
-/// certificate of values that it may have had, and these give exactly this end. Refusals and faults are those of `Store::ask`, and
+/// certificate of values that it may have had, and these with what is known give exactly this end. Refusals and faults are those of `Store::ask`, and
 /// it leaves the disk and the store as that does. It takes no memory.
 pub fn check<D: Disk>(
     store: &mut Store,
@@ -58,7 +58,7 @@ pub fn check<D: Disk>(
     end: End,
     w: &Evidence,
 ) -> Result<bool, AskError>
-    requires kind { IsTrue (adds_up query.now.kind) }
+    requires kind { IsTrue (is_certified query.now.kind) }
     requires one_disk { StandsOn store.old (D.seen disk.old) }
     // What the state that is shown has, with what is staged. Where it is right the end that it shows may be the truth.
     ensures checks { Step (verdict_of_ask result) (D.seen disk.old) (D.seen disk.new) (ChecksEvidence store.old.records query.now end w.now result) }

@@ -95,6 +95,7 @@ fn has_window_sum(cert: &Cert, split: Split) -> bool
 // Whether it is of the window, with so many values as may lie in the range and outside it.
 fn is_of(cert: &Cert, cut: &Cut) -> bool
     ensures few { IsTrue result → run_count cert.now.inside.items + run_count cert.now.outside.items ≤ MOST_VALUES }
+    ensures inside { IsTrue result → HasFewInside cert.now }
     ensures value { IsTrue result ↔ IsOf cut.now cert.now }
 {
     names(cert, cut) && is_in_range(cert, cut.split) && has_numbers(cert, cut.split)

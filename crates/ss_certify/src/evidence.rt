@@ -1,6 +1,6 @@
 // Why an end of an answer can't be narrower, filters aside.
 use arrayvec::ArrayVec;
-use ss_bounds::Split;
+use ss_bounds::{Fraction, Split};
 use ss_model::Run;
 
 /// What a window that the range splits may hold: the positions of its first and last value, its figures, how many of its
@@ -15,11 +15,23 @@ pub struct Cert {
     pub outside: ArrayVec<Run, 3>,
 }
 
-/// An end of an answer, what is known without the windows that the range splits, and what these may hold, oldest first.
+/// What is answered of the values in a range: one number or, where no value lies there, that there is no mean.
+#[derive(Clone, Copy, Debug, PartialEq, Eq)]
+pub enum Answer {
+    /// How many they are.
+    Count(u64),
+    /// Their sum.
+    Sum(i128),
+    /// Their mean, in lowest terms, if there is any value.
+    Mean(Option<Fraction>),
+}
+
+/// An end of an answer, the sum and the count of what is known without the windows that the range splits, and what these may
+/// hold, oldest first.
 #[derive(Debug, Drop)]
 pub struct Evidence {
-    pub answer: i128,
-    pub base: i128,
+    pub answer: Answer,
+    pub known: Fraction,
     pub certs: ArrayVec<Cert, 2>,
 }
 

@@ -1,7 +1,6 @@
 //! Certificates: values that fit every window of a stream and give exactly the asked end of an answer.
 #![tactic(auto)]
 
-mod base;
 mod certificates;
 mod checking;
 mod evidence;
@@ -11,11 +10,11 @@ mod making_laws;
 mod runs;
 mod sharp_laws;
 mod showing;
-mod sums;
 mod told;
+mod values;
 
 pub use certificates::{check, make};
-pub use evidence::{Cert, Evidence};
+pub use evidence::{Answer, Cert, Evidence};
 pub use making_laws::evidence_shows_the_end;
 pub use sharp_laws::{answers_are_sharp, evidence_may_be_true};
 pub use ss_model::Run;

@@ -1,31 +1,36 @@
 // The evidence for an end of an answer, from what is known of a stream.
-ghost use Rattle.std.specs.Prelude.{◌≡◌, ◌<◌, ◌≤◌, ◌+◌, ◌++◌, map, None};
-ghost use Rattle.arrayvec.specs.ArrayVec.{array_vec_len};
+ghost use Rattle.std.specs.Prelude.{◌≡◌, ◌≤◌, ◌^◌, [], ◌∷◌, All, IfSome, None, unsigned_abs};
 ghost use Rattle.ss_bounds.specs.Extremes.{listed};
 ghost use Rattle.ss_bounds.specs.Parted.{CanBeParted};
+ghost use Rattle.ss_bounds.specs.Split.{IsSplit};
 ghost use Rattle.ss_query.specs.Asked.{IsFewMarked};
-ghost use Rattle.ss_base.specs.Near.{IsNear};
 ghost use Rattle.ss_certify.specs.Checked.{HasFewInside};
-ghost use Rattle.ss_certify.specs.Evidence.{certified_sum};
-ghost use Rattle.ss_certify.specs.Made.{attaining, certificate_of, certificate_with, evidence_of, inside_sum};
+ghost use Rattle.ss_certify.specs.Made.{attaining, certificate_of, certificate_with, certificates_of, evidence_of, inside_sum};
 
-use crate::base::{base, certified_part};
 use crate::fill::fill;
-use crate::sums::{high_sum, low_sum};
+use crate::values::{answer, certified, known, with_certified};
 use crate::{Cert, Evidence};
 use arrayvec::ArrayVec;
-use ss_bounds::{Split, count_bounds, greatest_sum_at, least_sum_at};
+use ss_bounds::{
+    Fraction, Split, count_bounds, greatest_mean_at, greatest_sum_at, high_sum, least_mean_at,
+    least_sum_at, low_sum, with_values,
+};
 use ss_catalog::{End, Kind};
 use ss_query::{Cut, Seen};
 
-// The least number of values in the range with which the sum attains this end, or without a sum the end of the numbers.
-fn attaining(kind: Kind, end: End, split: Split) -> u64
-    ensures { result ≡ attaining kind end split }
+// The least number of values in the range with which this end is attained: of the sum, of the mean with what is known and some values
+// of the other window, or else of the numbers.
+fn attaining(kind: Kind, end: End, known: Fraction, split: Split, other: Option<Split>) -> u64
+    requires near { unsigned_abs known.over ≤ 2 ^ 106 }
+    requires few { known.under ≤ 2 ^ 42 }
+    ensures { result ≡ attaining kind end known split (listed None other) }
 {
     let (fewest, most) = count_bounds(split);
     match (kind, end) {
         (Kind::Sum, End::Lo) => least_sum_at(split),
         (Kind::Sum, End::Hi) => greatest_sum_at(split),
+        (Kind::Mean, End::Lo) => least_mean_at(known, split, other),
+        (Kind::Mean, End::Hi) => greatest_mean_at(known, split, other),
         (_, End::Lo) => fewest,
         (_, End::Hi) => most,
     }
@@ -37,7 +42,7 @@ fn sum_inside(kind: Kind, end: End, split: Split, x: u64) -> i128
     ensures { result ≡ inside_sum kind end split x }
 {
     match (kind, end) {
-        (Kind::Sum, End::Hi) => high_sum(split, x),
+        (Kind::Sum | Kind::Mean, End::Hi) => high_sum(split, x),
         _ => low_sum(split, x),
     }
 }
@@ -59,35 +64,82 @@ fn certificate_with(cut: Cut, x: u64, sum: i128) -> Cert
     }
 }
 
-/// The certificate of a window that the range splits: with the least number of its values in the range that attains this end.
-pub fn certificate(kind: Kind, end: End, cut: Cut) -> Cert
-    ensures value { result ≡ certificate_of kind end cut }
+// Says for the proof alone what holds of a window that may be there.
+fn look(split: &Option<Split>)
+    ensures { IfSome split.now IsSplit }
+{
+    if let Some(split) = split {
+        let _count = split.count;
+    }
+}
+
+// The certificate of a window that the range splits: with the least number of its values in the range that attains this end, beside what
+// is known and some values of the other window.
+fn certificate(kind: Kind, end: End, known: Fraction, cut: Cut, other: Option<Split>) -> Cert
+    requires near { unsigned_abs known.over ≤ 2 ^ 106 }
+    requires few { known.under ≤ 2 ^ 42 }
+    ensures value { result ≡ certificate_of kind end known cut (listed None other) }
     ensures few { HasFewInside result }
 {
     let split = cut.split;
     // Read for the proof alone: with a field comes what holds of each split.
     let _count = split.count;
-    let x = attaining(kind, end, split);
+    look(&other);
+    let x = attaining(kind, end, known, split, other);
     let sum = sum_inside(kind, end, split, x);
     certificate_with(cut, x, sum)
 }
 
-// The certificate of one window more, where there is one, and what its values in the range add to the answer.
-fn add_certificate(certs: &mut ArrayVec<Cert, 2>, cut: Option<Cut>, kind: Kind, end: End) -> i128
-    requires { array_vec_len certs.old < 2 }
-    ensures items { certs.new.items ≡ certs.old.items ++ map (certificate_of kind end) (listed cut None) }
-    ensures len { array_vec_len certs.new ≤ array_vec_len certs.old + 1 }
-    ensures value { result ≡ certified_sum kind (map (certificate_of kind end) (listed cut None)) }
-    ensures near { IsNear result }
+// The one of the only window that the range splits.
+fn certificates_of_one(kind: Kind, end: End, known: Fraction, cut: Cut) -> ArrayVec<Cert, 2>
+    requires near { unsigned_abs known.over ≤ 2 ^ 105 }
+    requires few { known.under ≤ 2 ^ 41 }
+    ensures value { result.items ≡ certificates_of kind end known (cut ∷ []) }
+    ensures each { All HasFewInside result.items }
 {
-    match cut {
-        None => 0,
-        Some(cut) => {
-            let cert = certificate(kind, end, cut);
-            let part = certified_part(kind, &cert);
-            certs.push(cert);
-            part
-        }
+    let mut certs = ArrayVec::new();
+    certs.push(certificate(kind, end, known, cut, None));
+    certs
+}
+
+// Those of two windows: with the values of the older one known, the newer one's attain the end.
+fn certificates_of_two(
+    kind: Kind,
+    end: End,
+    known: Fraction,
+    older: Cut,
+    newer: Cut,
+) -> ArrayVec<Cert, 2>
+    requires near { unsigned_abs known.over ≤ 2 ^ 105 }
+    requires few { known.under ≤ 2 ^ 41 }
+    ensures value { result.items ≡ certificates_of kind end known (older ∷ newer ∷ []) }
+    ensures each { All HasFewInside result.items }
+{
+    let first = certificate(kind, end, known, older, Some(newer.split));
+    let known = with_values(known, certified(&first));
+    let mut certs = ArrayVec::new();
+    certs.push(first);
+    certs.push(certificate(kind, end, known, newer, None));
+    certs
+}
+
+// Those of the windows that the range splits.
+fn certificates(
+    kind: Kind,
+    end: End,
+    known: Fraction,
+    left: Option<Cut>,
+    right: Option<Cut>,
+) -> ArrayVec<Cert, 2>
+    requires near { unsigned_abs known.over ≤ 2 ^ 105 }
+    requires few { known.under ≤ 2 ^ 41 }
+    ensures value { result.items ≡ certificates_of kind end known (listed left right) }
+    ensures each { All HasFewInside result.items }
+{
+    match (left, right) {
+        (None, None) => ArrayVec::new(),
+        (Some(cut), None) | (None, Some(cut)) => certificates_of_one(kind, end, known, cut),
+        (Some(older), Some(newer)) => certificates_of_two(kind, end, known, older, newer),
     }
 }
 
@@ -96,13 +148,11 @@ pub fn evidence(seen: &Seen, kind: Kind, end: End) -> Evidence
     requires { IsFewMarked seen.now.marked }
     ensures { result ≡ evidence_of kind end seen.now }
 {
-    let base = base(seen, kind);
-    let mut certs = ArrayVec::new();
-    let left = add_certificate(&mut certs, seen.left, kind, end);
-    let right = add_certificate(&mut certs, seen.right, kind, end);
+    let known = known(seen);
+    let certs = certificates(kind, end, known, seen.left, seen.right);
     Evidence {
-        answer: base + left + right,
-        base,
+        answer: answer(kind, with_certified(known, certs.as_slice())),
+        known,
         certs,
     }
 }

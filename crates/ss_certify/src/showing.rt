@@ -1,13 +1,14 @@
 // Whether evidence shows that an end of an answer can't be narrower, filters aside.
-ghost use Rattle.std.specs.Prelude.{◌≡◌, ◌↔◌, ◌≤◌, ◌^◌, ◌+ℤ◌, [], ◌∷◌, All, IsTrue, length, Some, unsigned_abs};
+ghost use Rattle.std.specs.Prelude.{◌≡◌, ◌↔◌, [], ◌∷◌, All, IsTrue, Some};
 ghost use Rattle.ss_bounds.specs.Extremes.{listed};
-ghost use Rattle.ss_query.specs.Asked.{IsFewMarked, outcome_seen};
-ghost use Rattle.ss_certify.specs.Evidence.{AllCertify, IsEvidence, base_of, end_asked, certified_sum};
+ghost use Rattle.ss_query.specs.Asked.{IsFewMarked, outcome_seen, values_seen};
+ghost use Rattle.ss_certify.specs.Evidence.{AllCertify, IsEvidence, answer_from, end_asked, mean_end, with_certified};
 ghost use Rattle.ss_certify.specs.Checked.{HasFewInside};
 
-use crate::base::{base, certified_part};
 use crate::checking::certifies;
-use crate::{Cert, Evidence};
+use crate::values::{answer, known, with_certified};
+use crate::{Answer, Cert, Evidence};
+use ss_bounds::{Fraction, Mean};
 use ss_catalog::{End, Kind};
 use ss_query::{Cut, Outcome, Seen, outcome_seen};
 
@@ -45,45 +46,44 @@ fn all_certify(left: Option<Cut>, right: Option<Cut>, certs: &[Cert]) -> bool
     }
 }
 
-// What the values of two certificates at the most add to the answer, in all.
-fn parts(kind: Kind, certs: &[Cert]) -> i128
-    requires few { length certs.now ≤ 2 }
-    requires each { All HasFewInside certs.now }
-    ensures value { result ≡ certified_sum kind certs.now }
-    ensures near { unsigned_abs result ≤ 2 ^ 105 }
+// Whether what is known exactly and the values of the certificates in the range have this answer.
+fn answers(seen: &Seen, kind: Kind, w: &Evidence) -> bool
+    requires marked { IsFewMarked seen.now.marked }
+    requires each { All HasFewInside w.now.certs.items }
+    ensures { IsTrue result ↔ ((w.now.known ≡ values_seen seen.now) × (w.now.answer ≡ answer_from kind (with_certified w.now.known w.now.certs.items))) }
 {
-    match certs {
-        [] => 0,
-        [cert] => certified_part(kind, cert),
-        [first, second, ..] => certified_part(kind, first) + certified_part(kind, second),
+    let known = known(seen);
+    w.known == known && w.answer == answer(kind, with_certified(known, w.certs.as_slice()))
+}
+
+// An end of what is known of a mean, if there may be one.
+fn mean_end(end: End, known: Mean) -> Option<Fraction>
+    ensures { result ≡ mean_end end known }
+{
+    match (end, known) {
+        (_, Mean::Nothing) => None,
+        (End::Lo, Mean::Sure { lo, .. } | Mean::Maybe { lo, .. }) => Some(lo),
+        (End::Hi, Mean::Sure { hi, .. } | Mean::Maybe { hi, .. }) => Some(hi),
     }
 }
 
-// Whether what is known exactly and the values of the certificates in the range are the answer.
-fn adds_up(seen: &Seen, kind: Kind, w: &Evidence) -> bool
-    requires marked { IsFewMarked seen.now.marked }
-    requires each { All HasFewInside w.now.certs.items }
-    ensures { IsTrue result ↔ ((w.now.base ≡ base_of kind seen.now) × (w.now.answer ≡ (w.now.base +ℤ certified_sum kind w.now.certs.items))) }
-{
-    let base = base(seen, kind);
-    w.base == base && w.answer == base + parts(kind, w.certs.as_slice())
-}
-
-// An end of an answer, if it is a number.
-fn end_asked(end: End, outcome: Outcome) -> Option<i128>
+// An end of what is answered, if there are certificates of it.
+fn end_asked(end: End, outcome: Outcome) -> Option<Answer>
     ensures { result ≡ end_asked end outcome }
 {
     match (end, outcome) {
-        (End::Lo, Outcome::Count { lo, .. }) => Some(i128::from(lo)),
-        (End::Hi, Outcome::Count { hi, .. }) => Some(i128::from(hi)),
-        (End::Lo, Outcome::Sum { lo, .. }) => Some(lo),
-        (End::Hi, Outcome::Sum { hi, .. }) => Some(hi),
+        (End::Lo, Outcome::Count { lo, .. }) => Some(Answer::Count(lo)),
+        (End::Hi, Outcome::Count { hi, .. }) => Some(Answer::Count(hi)),
+        (End::Lo, Outcome::Sum { lo, .. }) => Some(Answer::Sum(lo)),
+        (End::Hi, Outcome::Sum { hi, .. }) => Some(Answer::Sum(hi)),
+        (End::Lo, Outcome::Mean(known)) => Some(Answer::Mean(mean_end(End::Lo, known))),
+        (End::Hi, Outcome::Mean(known)) => Some(Answer::Mean(mean_end(End::Hi, known))),
         _ => None,
     }
 }
 
 // Whether this is the end that is asked for.
-fn is_asked(seen: &Seen, kind: Kind, end: End, answer: i128) -> bool
+fn is_asked(seen: &Seen, kind: Kind, end: End, answer: Answer) -> bool
     requires { IsFewMarked seen.now.marked }
     ensures { IsTrue result ↔ (end_asked end (outcome_seen kind seen.now) ≡ Some answer) }
 {
@@ -97,6 +97,6 @@ pub fn shows(seen: &Seen, kind: Kind, end: End, w: &Evidence) -> bool
     ensures { IsTrue result ↔ IsEvidence kind end seen.now w.now }
 {
     all_certify(seen.left, seen.right, w.certs.as_slice())
-        && adds_up(seen, kind, w)
+        && answers(seen, kind, w)
         && is_asked(seen, kind, end, w.answer)
 }

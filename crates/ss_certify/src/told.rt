@@ -2,7 +2,7 @@
 ghost use Rattle.std.specs.Prelude.{◌≡◌, ◌-◌, get_or, if◌then◌else◌, pos};
 ghost use Rattle.ss_certify.specs.Told.{head_of, three_runs, side_of};
 
-use crate::{Cert, Evidence};
+use crate::{Answer, Cert, Evidence};
 use ss_model::Run;
 use ss_report::{Reply, Side};
 
@@ -49,10 +49,24 @@ fn value_count(cert: &Cert, inner: bool) -> u64
 pub fn head(w: &Evidence) -> Reply
     ensures { result ≡ head_of w.now }
 {
-    Reply::CertifyHead {
-        answer: w.answer,
-        base: w.base,
-        count: w.certs.len() as u32,
+    let known = w.known;
+    let count = w.certs.len() as u32;
+    match w.answer {
+        Answer::Count(answer) => Reply::CertifyHead {
+            answer: i128::from(answer),
+            base: i128::from(known.under),
+            count,
+        },
+        Answer::Sum(answer) => Reply::CertifyHead {
+            answer,
+            base: known.over,
+            count,
+        },
+        Answer::Mean(answer) => Reply::CertifyMeanHead {
+            answer,
+            known,
+            count,
+        },
     }
 }
 

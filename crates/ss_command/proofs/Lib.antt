@@ -10,3 +10,4 @@ pub mod SayLemmas
 pub mod WordLemmas
 mod Rows
 pub mod TableLemmas
+mod MeanRows

@@ -8,7 +8,7 @@ use Rattle.std.specs.Fmt.{decimal, signed_decimal}
 use Rattle.std.specs.Int.{w64}
 use Rattle.ss_catalog.proofs.NameLemmas.{length-is_name}
 use Rattle.ss_catalog.specs.Names.{is_name}
-use Rattle.ss_catalog.specs.Queries.{IsKindOfValues, adds_up, end_name, is_guess, kind_name, query_verb, series_verb}
+use Rattle.ss_catalog.specs.Queries.{IsKindOfValues, end_name, is_certified, is_guess, kind_name, query_verb, series_verb}
 use Rattle.ss_catalog.specs.Series.{IsSeriesInRange, rows_in}
 use Rattle.ss_catalog.specs.declared.TheConstants.{MOST_ROWS}
 use Rattle.ss_base.specs.declared.limits.TheConstants.{LAST_TIME}
@@ -158,9 +158,11 @@ IsWord-kind kinds.Count = literal (codes "count") refl
 IsWord-kind kinds.Sum = literal (codes "sum") refl
 IsWord-kind kinds.Min = literal (codes "min") refl
 IsWord-kind kinds.Max = literal (codes "max") refl
+IsWord-kind kinds.Mean = literal (codes "mean") refl
 IsWord-kind (kinds.Has value) = literal (codes "has") refl
 IsWord-kind kinds.CountGuess = literal (codes "count") refl
 IsWord-kind kinds.SumGuess = literal (codes "sum") refl
+IsWord-kind kinds.MeanGuess = literal (codes "mean") refl
 
 -- the first words
 IsWord-query_verb : (kind : Kind) → IsWord (query_verb kind)
@@ -254,9 +256,11 @@ meaning-query query kinds.Count is early late fits = meaning-figure query.name k
 meaning-query query kinds.Sum is early late fits = meaning-figure query.name kinds.Sum query.from query.to is early late refl
 meaning-query query kinds.Min is early late fits = meaning-figure query.name kinds.Min query.from query.to is early late refl
 meaning-query query kinds.Max is early late fits = meaning-figure query.name kinds.Max query.from query.to is early late refl
+meaning-query query kinds.Mean is early late fits = meaning-figure query.name kinds.Mean query.from query.to is early late refl
 meaning-query query (kinds.Has value) is early late fits = meaning-has query.name value query.from query.to is early late fits
 meaning-query query kinds.CountGuess is early late fits = meaning-figure query.name kinds.CountGuess query.from query.to is early late refl
 meaning-query query kinds.SumGuess is early late fits = meaning-figure query.name kinds.SumGuess query.from query.to is early late refl
+meaning-query query kinds.MeanGuess is early late fits = meaning-figure query.name kinds.MeanGuess query.from query.to is early late refl
 
 meaning-series : (series : Series) → is_name series.name ≡ true → IsSeriesInRange series → takes_value series.kind ≡ false →
     meaning (spaced (series_verb series.kind)
@@ -300,22 +304,23 @@ IsWord-end : (end : End) → IsWord (end_name end)
 IsWord-end ends.Lo = literal (codes "lo") refl
 IsWord-end ends.Hi = literal (codes "hi") refl
 
-certify-means : (name : List ℕ) (kind : Kind) (end : End) (from to : ℕ) → is_name name ≡ true → from ≤ LAST_TIME → to ≤ LAST_TIME → adds_up kind ≡ true →
+certify-means : (name : List ℕ) (kind : Kind) (end : End) (from to : ℕ) → is_name name ≡ true → from ≤ LAST_TIME → to ≤ LAST_TIME → is_certified kind ≡ true →
     command_of (codes "certify") (name ∷ kind_name kind ∷ end_name end ∷ decimal from ∷ decimal to ∷ []) ≡ Ok
     (commands.Certify (record { name = name; kind = kind; from = from; to = to }) end)
-certify-means name kinds.Min end from to is early late added = cc
-certify-means name kinds.Max end from to is early late added = cc
-certify-means name (kinds.Has value) end from to is early late added = cc
-certify-means name kinds.CountGuess end from to is early late added = cc
-certify-means name kinds.SumGuess end from to is early late added = cc
-certify-means name _ ends.Lo from to is early late added = rw (time_of-decimal from early, time_of-decimal to late, name_of-name name is) refl
-certify-means name _ ends.Hi from to is early late added = rw (time_of-decimal from early, time_of-decimal to late, name_of-name name is) refl
+certify-means name kinds.Min end from to is early late certified = cc
+certify-means name kinds.Max end from to is early late certified = cc
+certify-means name (kinds.Has value) end from to is early late certified = cc
+certify-means name kinds.CountGuess end from to is early late certified = cc
+certify-means name kinds.SumGuess end from to is early late certified = cc
+certify-means name kinds.MeanGuess end from to is early late certified = cc
+certify-means name _ ends.Lo from to is early late certified = rw (time_of-decimal from early, time_of-decimal to late, name_of-name name is) refl
+certify-means name _ ends.Hi from to is early late certified = rw (time_of-decimal from early, time_of-decimal to late, name_of-name name is) refl
 
 meaning-certify : (name : List ℕ) (kind : Kind) (end : End) (from to : ℕ) → is_name name ≡ true → from ≤ LAST_TIME → to ≤ LAST_TIME →
-    adds_up kind ≡ true →
+    is_certified kind ≡ true →
     meaning (spaced (codes "certify") (name ∷ kind_name kind ∷ end_name end ∷ decimal from ∷ decimal to ∷ [])) ≡ Ok
     (Some (commands.Certify (record { name = name; kind = kind; from = from; to = to }) end))
-meaning-certify name kind end from to is early late added =
+meaning-certify name kind end from to is early late certified =
     let rest = name ∷ kind_name kind ∷ end_name end ∷ decimal from ∷ decimal to ∷ [] in
     let all : AreWords rest = (
       IsWord-name name is,
@@ -332,7 +337,7 @@ meaning-certify name kind end from to is early late added =
       length-decimal_64 to (omega arith),
     ) in
     meaning-spaced (codes "certify") rest (literal (codes "certify") refl) all short refl
-    ∙ rw (certify-means name kind end from to is early late added) refl
+    ∙ rw (certify-means name kind end from to is early late certified) refl
 
 meaning-last : (name : List ℕ) → is_name name ≡ true → meaning (spaced (codes "last") (name ∷ [])) ≡ Ok (Some (commands.Last name))
 meaning-last name is =

@@ -35,9 +35,11 @@ length-kind kinds.Count = omega arith
 length-kind kinds.Sum = omega arith
 length-kind kinds.Min = omega arith
 length-kind kinds.Max = omega arith
+length-kind kinds.Mean = omega arith
 length-kind (kinds.Has value) = omega arith
 length-kind kinds.CountGuess = omega arith
 length-kind kinds.SumGuess = omega arith
+length-kind kinds.MeanGuess = omega arith
 
 pub length-end : (end : End) → length (end_name end) ≤ 2
 length-end ends.Lo = omega arith

@@ -124,7 +124,7 @@ unfolding meaning words is_number number_of number_up_to signed_of is_name
 means-queries = refl
 
 means-queries_refused :
-    map meaning (codes "query a count 1" ∷ codes "query a count 1 2 3" ∷ codes "query a mean 1 2" ∷ codes "query x! mean y 2" ∷ codes "query x! sum y 2"
+    map meaning (codes "query a count 1" ∷ codes "query a count 1 2 3" ∷ codes "query a avg 1 2" ∷ codes "query x! avg y 2" ∷ codes "query x! sum y 2"
     ∷ codes "query a sum 1 4611686018427387905" ∷ codes "query a sum -1 2" ∷ codes "query x! sum 1 2" ∷ [])
     ≡ map refused (refusals.Syntax ∷ refusals.Syntax ∷ refusals.Syntax ∷ refusals.Syntax ∷ refusals.Number ∷ refusals.Number ∷ refusals.Number ∷ refusals.Name
     ∷ [])
@@ -271,7 +271,7 @@ means-series = refl
 
 -- the order of the refusals; a step of 0, one past the last time, and one row too many
 means-series_refused :
-    map meaning (codes "series a count 1 2" ∷ codes "series a count 1 2 3 4" ∷ codes "series x! mean y 2 0" ∷ codes "series x! sum y 2 1"
+    map meaning (codes "series a count 1 2" ∷ codes "series a count 1 2 3 4" ∷ codes "series x! avg y 2 0" ∷ codes "series x! sum y 2 1"
     ∷ codes "series x! sum 1 2 0" ∷ codes "series a sum 1 2 4611686018427387905" ∷ codes "series a sum 0 100000 1" ∷ codes "series a sum 2 1 0"
     ∷ codes "series x! sum 0 100000 1" ∷ codes "series x! sum 0 100000 2" ∷ [])
     ≡ map refused (refusals.Syntax ∷ refusals.Syntax ∷ refusals.Syntax ∷ refusals.Number ∷ refusals.Number ∷ refusals.Number ∷ refusals.Number
@@ -320,10 +320,10 @@ means-certificates :
 unfolding meaning words is_number number_of number_up_to signed_of is_name
 means-certificates = refl
 
--- the order of the refusals; a kind that doesn't add up, and a word that is no end
+-- the order of the refusals; a kind that there are no certificates for, and a word that is no end
 means-certificates_refused :
     map meaning (codes "certify a count lo 1" ∷ codes "certify a count lo 1 2 3" ∷ codes "certify x! min lo y 2" ∷ codes "certify x! max hi y 2"
-    ∷ codes "certify x! mean lo y 2" ∷ codes "certify x! sum LO y 2" ∷ codes "certify x! sum low y 2" ∷ codes "certify x! sum lo y 2"
+    ∷ codes "certify x! avg lo y 2" ∷ codes "certify x! sum LO y 2" ∷ codes "certify x! sum low y 2" ∷ codes "certify x! sum lo y 2"
     ∷ codes "certify x! sum hi 1 y" ∷ codes "certify a sum hi 1 4611686018427387905" ∷ codes "certify a sum hi 4611686018427387905 1"
     ∷ codes "certify x! sum lo 1 2" ∷ [])
     ≡ map refused (refusals.Syntax ∷ refusals.Syntax ∷ refusals.Syntax ∷ refusals.Syntax ∷ refusals.Syntax ∷ refusals.Syntax ∷ refusals.Syntax

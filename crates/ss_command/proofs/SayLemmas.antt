@@ -8,7 +8,7 @@ use Rattle.std.specs.Int.{w64}
 use Rattle.ss_fields.specs.Words.{as_negative, as_positive, number_up_to, signed_of}
 use Rattle.ss_fields.specs.declared.number_error.NumberError.{NumberError}
 use Rattle.ss_catalog.specs.Names.{is_name}
-use Rattle.ss_catalog.specs.Queries.{IsKindOfValues, adds_up}
+use Rattle.ss_catalog.specs.Queries.{IsKindOfValues, is_certified}
 use Rattle.ss_catalog.specs.Series.{rows_in}
 use Rattle.ss_catalog.specs.declared.TheConstants.{MOST_ROWS}
 use Rattle.ss_base.specs.declared.limits.TheConstants.{LAST_TIME}
@@ -178,9 +178,9 @@ fields-in_range may (field ∷ form) (word ∷ ws) said after of fine same =
     let first = bind-Ok (read_field field word said) _ after same in
     fields-in_range may form ws first.0 after of.1 (field-in_range may field word said first.0 of.0 fine first.1) first.2
 
--- what a form may ask for: what adds up in a certificate, and elsewhere what is said without a value
+-- what a form may ask for: in a certificate what there are certificates for, and elsewhere what is said without a value
 abbrev may_ask : Row → Kind → Bool
-may_ask rows.Certify kind = adds_up kind
+may_ask rows.Certify kind = is_certified kind
 may_ask _ kind = not (takes_value kind)
 
 all-alone : (word : List ℕ) (kind : Kind) → kind_named asked.All word ≡ Some kind → not (takes_value kind) ≡ true
@@ -189,8 +189,8 @@ all-alone word kind same = grind arith
 guessed-alone : (word : List ℕ) (kind : Kind) → kind_named asked.Guessed word ≡ Some kind → not (takes_value kind) ≡ true
 guessed-alone word kind same = grind arith
 
-added-adds_up : (word : List ℕ) (kind : Kind) → kind_named asked.Added word ≡ Some kind → adds_up kind ≡ true
-added-adds_up word kind same = grind arith
+certified-is : (word : List ℕ) (kind : Kind) → kind_named asked.Certified word ≡ Some kind → is_certified kind ≡ true
+certified-is word kind same = grind arith
 
 row-kinds : (row : Row) → AreOfKinds (may_ask row) (fields_of row)
 row-kinds rows.Exp = (tt, (tt, (tt, (tt, tt))))
@@ -205,7 +205,7 @@ row-kinds rows.Query = (all-alone, (tt, (tt, tt)))
 row-kinds rows.Has = (tt, (tt, (tt, (tt, tt))))
 row-kinds rows.Series = (all-alone, (tt, (tt, (tt, tt))))
 row-kinds rows.Windows = tt
-row-kinds rows.Certify = (added-adds_up, (tt, (tt, (tt, tt))))
+row-kinds rows.Certify = (certified-is, (tt, (tt, (tt, tt))))
 row-kinds rows.Last = tt
 row-kinds rows.Values = (tt, (tt, tt))
 row-kinds rows.Estimate = (guessed-alone, (tt, (tt, tt)))
@@ -233,9 +233,11 @@ alone-fits kinds.Count alone = tt
 alone-fits kinds.Sum alone = tt
 alone-fits kinds.Min alone = tt
 alone-fits kinds.Max alone = tt
+alone-fits kinds.Mean alone = tt
 alone-fits (kinds.Has value) alone = cc
 alone-fits kinds.CountGuess alone = tt
 alone-fits kinds.SumGuess alone = tt
+alone-fits kinds.MeanGuess alone = tt
 
 -- a form in rows has as many as it may
 with_few_rows-split : (in_rows few : Bool) (said after : Said) →

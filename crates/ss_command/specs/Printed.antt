@@ -4,7 +4,7 @@ use Rattle.std.specs.Fmt.{decimal, signed_decimal}
 use Rattle.std.specs.Int.{w64}
 use Rattle.ss_catalog.specs.Events.{IsInTime}
 use Rattle.ss_catalog.specs.Names.{is_name}
-use Rattle.ss_catalog.specs.Queries.{IsKindOfValues, IsQueryInTime, adds_up, end_name, is_guess, kind_name}
+use Rattle.ss_catalog.specs.Queries.{IsKindOfValues, IsQueryInTime, end_name, is_certified, is_guess, kind_name}
 use Rattle.ss_catalog.specs.Series.{IsSeriesInRange}
 use Rattle.ss_base.specs.declared.limits.TheConstants.{LAST_TIME}
 use Rattle.ss_catalog.specs.declared.event.Event.TheVariants.{Create, Value, Open, Close, Drop}
@@ -56,9 +56,11 @@ takes_value kinds.Count = false
 takes_value kinds.Sum = false
 takes_value kinds.Min = false
 takes_value kinds.Max = false
+takes_value kinds.Mean = false
 takes_value (kinds.Has value) = true
 takes_value kinds.CountGuess = false
 takes_value kinds.SumGuess = false
+takes_value kinds.MeanGuess = false
 
 -- the first word of a form
 abbrev pub verb_word : Row → List ℕ
@@ -142,6 +144,7 @@ abbrev pub printed_query : Query → Kind → List ℕ
 printed_query query (kinds.Has value) = form_line rows.Has query.name (record (said_range kinds.Count query.from query.to) { value = value })
 printed_query query kinds.CountGuess = form_line rows.Estimate query.name (said_range kinds.CountGuess query.from query.to)
 printed_query query kinds.SumGuess = form_line rows.Estimate query.name (said_range kinds.SumGuess query.from query.to)
+printed_query query kinds.MeanGuess = form_line rows.Estimate query.name (said_range kinds.MeanGuess query.from query.to)
 printed_query query kind = form_line rows.Query query.name (said_range kind query.from query.to)
 
 -- a command as it is printed: by its form
@@ -174,8 +177,8 @@ IsStepOfNumber (Some step) = step < 2 ^ 32
 abbrev pub HasParameters : Params → Type 0
 HasParameters params = IsFamilyOfNumbers params.family × IsStepOfNumber params.within
 
--- a command that a line can say: its name is one, its numbers are in their ranges, a series takes no value, and what is certified
--- adds up
+-- a command that a line can say: its name is one, its numbers are in their ranges, a series takes no value, and a certificate is of
+-- what there are certificates for
 abbrev pub IsSayable : Command → Type 0
 IsSayable (commands.Do (Create name params)) = (is_name name ≡ true) × HasParameters params
 IsSayable (commands.Do (Value name t v)) = (is_name name ≡ true) × (t ≤ LAST_TIME) × FitsSigned w64 v
@@ -186,17 +189,18 @@ IsSayable (commands.Ask query) = (is_name query.name ≡ true) × IsQueryInTime 
 IsSayable (commands.Series series) = (is_name series.name ≡ true) × IsSeriesInRange series × (takes_value series.kind ≡ false)
 IsSayable (commands.Windows name) = is_name name ≡ true
 IsSayable commands.List = Unit {0}
-IsSayable (commands.Certify query end) = (is_name query.name ≡ true) × IsQueryInTime query × (adds_up query.kind ≡ true)
+IsSayable (commands.Certify query end) = (is_name query.name ≡ true) × IsQueryInTime query × (is_certified query.kind ≡ true)
 IsSayable (commands.Last name) = is_name name ≡ true
 IsSayable (commands.Values name from to) = (is_name name ≡ true) × (from ≤ LAST_TIME) × (to ≤ LAST_TIME)
 
--- a command has no time above the greatest one, a series no more rows than one may have and no value, and what is certified adds up
+-- a command has no time above the greatest one, a series no more rows than one may have and no value, and a certificate is of what
+-- there are certificates for
 abbrev pub IsCommandInTime : Command → Type 0
 IsCommandInTime (commands.Do event) = IsInTime event
 IsCommandInTime (commands.Ask query) = IsQueryInTime query
 IsCommandInTime (commands.Series series) = IsSeriesInRange series × (takes_value series.kind ≡ false)
 IsCommandInTime (commands.Windows name) = Unit {0}
 IsCommandInTime commands.List = Unit {0}
-IsCommandInTime (commands.Certify query end) = IsQueryInTime query × (adds_up query.kind ≡ true)
+IsCommandInTime (commands.Certify query end) = IsQueryInTime query × (is_certified query.kind ≡ true)
 IsCommandInTime (commands.Last name) = Unit {0}
 IsCommandInTime (commands.Values name from to) = (from ≤ LAST_TIME) × (to ≤ LAST_TIME)

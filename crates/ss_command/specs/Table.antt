@@ -34,7 +34,7 @@ fields_of rows.Query = fields.Kind asked.All ∷ fields.From ∷ fields.To ∷ [
 fields_of rows.Has = fields.Fixed fixed.Has ∷ fields.Value ∷ fields.From ∷ fields.To ∷ []
 fields_of rows.Series = fields.Kind asked.All ∷ fields.From ∷ fields.To ∷ fields.Step ∷ []
 fields_of rows.Windows = []
-fields_of rows.Certify = fields.Kind asked.Added ∷ fields.End ∷ fields.From ∷ fields.To ∷ []
+fields_of rows.Certify = fields.Kind asked.Certified ∷ fields.End ∷ fields.From ∷ fields.To ∷ []
 fields_of rows.Last = []
 fields_of rows.Values = fields.From ∷ fields.To ∷ []
 fields_of rows.Estimate = fields.Kind asked.Guessed ∷ fields.From ∷ fields.To ∷ []
@@ -65,22 +65,26 @@ fixed_word fixed.Open = codes "open"
 fixed_word fixed.Close = codes "close"
 fixed_word fixed.Has = codes "has"
 
--- what a word asks for, where all may be asked for that is said without a value, or what of it adds up, or the likeliest
+-- what a word asks for, where all may be asked for that is said without a value, or what of it there are certificates for, or the
+-- likeliest
 abbrev pub kind_named : Kinds → List ℕ → Option Kind
 kind_named asked.All word =
     if is_word word (codes "count") then Some kinds.Count
     else (if is_word word (codes "sum") then Some kinds.Sum
     else (if is_word word (codes "min") then Some kinds.Min
     else (if is_word word (codes "max") then Some kinds.Max
-    else None)))
-kind_named asked.Added word =
+    else (if is_word word (codes "mean") then Some kinds.Mean
+    else None))))
+kind_named asked.Certified word =
     if is_word word (codes "count") then Some kinds.Count
     else (if is_word word (codes "sum") then Some kinds.Sum
-    else None)
+    else (if is_word word (codes "mean") then Some kinds.Mean
+    else None))
 kind_named asked.Guessed word =
     if is_word word (codes "count") then Some kinds.CountGuess
     else (if is_word word (codes "sum") then Some kinds.SumGuess
-    else None)
+    else (if is_word word (codes "mean") then Some kinds.MeanGuess
+    else None))
 
 -- the end of an interval that a word names
 abbrev pub end_named : List ℕ → Option End

@@ -18,12 +18,12 @@ pub enum Fixed {
     Has,
 }
 
-/// What may be asked for in a place: `count`, `sum`, `min` or `max`; one of these that adds up, `count` or `sum`; or the likeliest
-/// `count` or `sum`.
+/// What may be asked for in a place: `count`, `sum`, `min`, `max` or `mean`; one of these that there are certificates for, `count`,
+/// `sum` or `mean`; or the likeliest `count`, `sum` or `mean`.
 #[derive(Clone, Copy, Debug, PartialEq, Eq)]
 pub enum Kinds {
     All,
-    Added,
+    Certified,
     Guessed,
 }
 
@@ -144,7 +144,7 @@ impl Row {
             ],
             Row::Series => &[Field::Kind(Kinds::All), Field::From, Field::To, Field::Step],
             Row::Certify => &[
-                Field::Kind(Kinds::Added),
+                Field::Kind(Kinds::Certified),
                 Field::End,
                 Field::From,
                 Field::To,
@@ -189,6 +189,8 @@ fn named_alone(word: &[u8]) -> Option<Kind>
         Some(Kind::Min)
     } else if is_word(word, "max") {
         Some(Kind::Max)
+    } else if is_word(word, "mean") {
+        Some(Kind::Mean)
     } else {
         None
     }
@@ -201,12 +203,13 @@ impl Kinds {
     {
         match self {
             Kinds::All => named_alone(word),
-            Kinds::Added => match named_alone(word) {
-                Some(kind) if kind.adds_up() => Some(kind),
+            Kinds::Certified => match named_alone(word) {
+                Some(kind) if kind.is_certified() => Some(kind),
                 _ => None,
             },
             Kinds::Guessed if is_word(word, "count") => Some(Kind::CountGuess),
             Kinds::Guessed if is_word(word, "sum") => Some(Kind::SumGuess),
+            Kinds::Guessed if is_word(word, "mean") => Some(Kind::MeanGuess),
             Kinds::Guessed => None,
         }
     }

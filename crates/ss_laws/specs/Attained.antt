@@ -22,9 +22,11 @@ truth_of_kind kinds.Count from to c = Some (pos (count_in from to c))
 truth_of_kind kinds.Sum from to c = Some (sum_in from to c)
 truth_of_kind kinds.Min from to c = None
 truth_of_kind kinds.Max from to c = None
+truth_of_kind kinds.Mean from to c = None
 truth_of_kind (kinds.Has value) from to c = None
 truth_of_kind kinds.CountGuess from to c = None
 truth_of_kind kinds.SumGuess from to c = None
+truth_of_kind kinds.MeanGuess from to c = None
 
 -- contents like the actual ones have this true answer
 pub record IsTruthOfLike (actual : Contents) (query : Query) (answer : ℤ) : Type 0 where

@@ -6,12 +6,15 @@ use Rattle.ss_model.proofs.Common.{marked_values, AllKeptAlike, IsHistory, stand
 use Rattle.ss_model.proofs.Common.{rule_of, windows, Outcome, Window}
 use Rattle.ss_catalog.specs.declared.query.Kind.TheVariants as kinds
 use Rattle.ss_bounds.proofs.GuessLemmas.{count_guess-within, sum_guess-within}
+use Rattle.ss_bounds.proofs.MeanGuessLemmas.{mean_guess-ends, mean_guess-HoldsMeanGuess}
 use Rattle.ss_model.specs.Answers.{answer_of_kind, interval_query, outcome_of, refuses_query, unguessed}
-use Rattle.ss_model.specs.Interval.{known_count, known_sum}
+use Rattle.ss_model.specs.Interval.{known_count, known_sum, known_values}
+use Rattle.ss_model.specs.Truth.{true_values}
 use Rattle.ss_model.specs.State.{state}
 use Rattle.ss_model.proofs.HistoryLemmas.{IsState-state}
 use Rattle.ss_model.proofs.IntervalLemmas.{AreExactlyOf, AreOf-exactly, count-lies, sum-lies, least-HoldsExtreme, greatest-HoldsExtreme, count-exact, sum-exact}
 use Rattle.ss_model.proofs.IntervalLemmas.{least-exact, greatest-exact}
+use Rattle.ss_model.proofs.MeanLemmas.{guess-exact, mean-HoldsMean, mean-exact}
 use Rattle.ss_model.proofs.OutlineLemmas.{read-outlines}
 use Rattle.ss_model.proofs.PieceLemmas.{AreExactlyOf-windows}
 use Rattle.ss_model.proofs.PresenceLemmas.{presence-holds}
@@ -35,6 +38,8 @@ kind-holds kinds.Min free query ws plain marked of rising each is =
     least-HoldsExtreme free query.from query.to ws plain marked 0 (AreOf-exactly ws plain of) rising
 kind-holds kinds.Max free query ws plain marked of rising each is =
     greatest-HoldsExtreme free query.from query.to ws plain marked 0 (AreOf-exactly ws plain of) rising
+kind-holds kinds.Mean free query ws plain marked of rising each is =
+    mean-HoldsMean free query.from query.to ws plain marked 0 (AreOf-exactly ws plain of) rising
 kind-holds (kinds.Has v) free query ws plain marked of rising each is =
     (v, sym is, presence-holds v free query.from query.to ws plain marked 0 of rising)
 kind-holds kinds.CountGuess free query ws plain marked of rising each is =
@@ -45,6 +50,9 @@ kind-holds kinds.SumGuess free query ws plain marked of rising each is =
     let truth = sum-lies free query.from query.to ws plain marked 0 (AreOf-exactly ws plain of) rising in
     let guess = sum_guess-within (known_sum query.from query.to ws marked) (split_windows free query.from query.to ws) each in
     rw (sym is) (truth.0, truth.1, guess.0, guess.1)
+kind-holds kinds.MeanGuess free query ws plain marked of rising each is =
+    mean_guess-HoldsMeanGuess (known_values query.from query.to ws marked) (true_values query.from query.to plain marked)
+    (split_windows free query.from query.to ws) each (mean-HoldsMean free query.from query.to ws plain marked 0 (AreOf-exactly ws plain of) rising)
 
 -- the answer of a stream that stands as a history leaves it
 stream-holds : (history : List Happened) (query : Query) (c : Created) → IsHistory history → IsStream (stream_after history c)
@@ -73,9 +81,11 @@ kind-is kinds.Count free query ws marked = refl
 kind-is kinds.Sum free query ws marked = refl
 kind-is kinds.Min free query ws marked = refl
 kind-is kinds.Max free query ws marked = refl
+kind-is kinds.Mean free query ws marked = refl
 kind-is (kinds.Has v) free query ws marked = (v, refl)
-kind-is kinds.CountGuess free query ws marked = refl
-kind-is kinds.SumGuess free query ws marked = refl
+kind-is kinds.CountGuess free query ws marked = inl refl
+kind-is kinds.SumGuess free query ws marked = inr refl
+kind-is kinds.MeanGuess free query ws marked = refl
 
 pub answer-kind : (streams : List Stream) (query : Query) (outcome : Outcome) → outcome_of streams query ≡ Some outcome → IsOfKind query.kind outcome
 unfolding outcome_of
@@ -90,6 +100,7 @@ kind-exact kinds.Count free query ws marked unsplit = count-exact free query.fro
 kind-exact kinds.Sum free query ws marked unsplit = sum-exact free query.from query.to ws marked unsplit
 kind-exact kinds.Min free query ws marked unsplit = least-exact free query.from query.to ws marked unsplit
 kind-exact kinds.Max free query ws marked unsplit = greatest-exact free query.from query.to ws marked unsplit
+kind-exact kinds.Mean free query ws marked unsplit = mean-exact free query.from query.to ws marked unsplit
 kind-exact (kinds.Has v) free query ws marked unsplit = tt
 kind-exact kinds.CountGuess free query ws marked unsplit =
     let within = count_guess-within (known_count query.from query.to ws marked) [] tt in
@@ -97,6 +108,7 @@ kind-exact kinds.CountGuess free query ws marked unsplit =
 kind-exact kinds.SumGuess free query ws marked unsplit =
     let within = sum_guess-within (known_sum query.from query.to ws marked) [] tt in
     rw unsplit (omega (arith, ints, within.0, within.1), omega (arith, ints, within.0, within.1))
+kind-exact kinds.MeanGuess free query ws marked unsplit = guess-exact free query.from query.to ws marked unsplit
 
 pub answer-exact : (streams : List Stream) (query : Query) (outcome : Outcome) → outcome_of streams query ≡ Some outcome
     → split_by streams query ≡ [] → IsExactOutcome outcome
@@ -114,9 +126,12 @@ kind-ends kinds.Count free query ws marked guessed = cc
 kind-ends kinds.Sum free query ws marked guessed = cc
 kind-ends kinds.Min free query ws marked guessed = cc
 kind-ends kinds.Max free query ws marked guessed = cc
+kind-ends kinds.Mean free query ws marked guessed = cc
 kind-ends (kinds.Has v) free query ws marked guessed = cc
 kind-ends kinds.CountGuess free query ws marked guessed = (refl, refl)
 kind-ends kinds.SumGuess free query ws marked guessed = (refl, refl)
+kind-ends kinds.MeanGuess free query ws marked guessed =
+    mean_guess-ends (known_values query.from query.to ws marked) (split_windows free query.from query.to ws)
 
 pub answer-ends : (streams : List Stream) (query : Query) (outcome : Outcome) → is_guess query.kind ≡ true
     → outcome_of streams query ≡ Some outcome

@@ -1,19 +1,21 @@
 -- Worked rows of what states answer to queries, each computed from a history.
-use Rattle.ss_model.proofs.Common.{ℤ, Option, codes, arith, refl, ints, Create, Value, Open, Close, Drop, Params, exp, power, is_guess, Kind, Query, Refusal}
+use Rattle.ss_model.proofs.Common.{ℤ, Option, codes, arith, refl, ints, Create, Value, Open, Close, Drop, Params, exp, power, ◌⊎◌, Kind, Query, Refusal}
 use Rattle.ss_model.proofs.Common.{Unknown, Range, Sure, SplitFigures, is_free, New, Happened, added, HasEnds, HoldsTruth, IsExactOutcome, IsOfKind, IsExact}
 use Rattle.ss_model.proofs.Common.{split_windows, Stream, Outcome, Sum}
-use Rattle.std.specs.Prelude.{◌≡◌, ℕ, Bool, pos, negsuc, true, List, [], ◌∷◌, map, Some, None}
+use Rattle.std.specs.Prelude.{◌≡◌, ℕ, Bool, pos, negsuc, List, [], ◌∷◌, map, Some, None}
 use Rattle.ss_targets.specs.Windowing.{window_index}
 use Rattle.ss_targets.specs.Power.{power_length}
 use Rattle.ss_catalog.specs.declared.query.Kind.TheVariants as kinds
 use Rattle.ss_catalog.specs.declared.refusal.Refusal.TheVariants as refusal
 use Rattle.ss_bounds.specs.declared.extreme.Extreme.TheVariants.{Nothing, Maybe}
+use Rattle.ss_bounds.specs.declared.mean.Mean.TheVariants as means
+use Rattle.ss_bounds.specs.declared.mean.MeanGuess.TheVariants as guesses
 use Rattle.ss_bounds.specs.Split.{sum_interval}
 use Rattle.ss_model.specs.Answers.{outcome_of, refuses_query}
 use Rattle.ss_model.specs.Outline.{Outline}
 use Rattle.ss_model.specs.Refusals.{range_refusals, refusals}
 use Rattle.ss_model.specs.State.{state}
-use Rattle.ss_model.specs.declared.outcome.Outcome.TheVariants.{Count, Min, Max, Estimate}
+use Rattle.ss_model.specs.declared.outcome.Outcome.TheVariants.{Count, Min, Max, Mean, Estimate, MeanEstimate}
 
 a : List ℕ
 a = codes "a"
@@ -244,8 +246,14 @@ module _ (kind : Kind) where
   kind-max : IsOfKind kind (Max Nothing) → kind ≡ kinds.Max
   kind-max is = is
 
-  kind-estimate : IsOfKind kind (Estimate (pos 1) (pos 2) (pos 3)) → is_guess kind ≡ true
+  kind-mean : IsOfKind kind (Mean means.Nothing) → kind ≡ kinds.Mean
+  kind-mean is = is
+
+  kind-estimate : IsOfKind kind (Estimate (pos 1) (pos 2) (pos 3)) → (kind ≡ kinds.CountGuess) ⊎ (kind ≡ kinds.SumGuess)
   kind-estimate is = is
+
+  kind-mean_estimate : IsOfKind kind (MeanEstimate guesses.Nothing) → kind ≡ kinds.MeanGuess
+  kind-mean_estimate is = is
 
 -- an estimate has the ends of a count or a sum
 ends-count : HasEnds (Estimate (pos 1) (pos 2) (pos 3)) (Count 1 3) × HasEnds (Estimate (pos 1) (pos 2) (pos 3)) (Sum (pos 1) (pos 3))

@@ -10,7 +10,9 @@ use Rattle.ss_bounds.specs.Truth.{MayAllLieThere, windows_alone, values_of_all}
 use Rattle.ss_bounds.proofs.ChoiceLemmas.{IsChoice, IsChoice-min, IsChoice-max, choice_in-append, choice_in-cons, either-assoc}
 use Rattle.ss_bounds.specs.Extremes.{min_interval, max_interval}
 use Rattle.ss_bounds.proofs.ExtremeLemmas.{min_interval-HoldsExtreme, max_interval-HoldsExtreme}
-use Rattle.ss_bounds.proofs.TruthLemmas.{asked-sum}
+use Rattle.ss_bounds.specs.declared.fraction.Fraction.{Fraction}
+use Rattle.ss_bounds.specs.MeanTruth.{MayHave}
+use Rattle.ss_bounds.proofs.TruthLemmas.{asked-MayHave, asked-sum}
 use Rattle.ss_model.specs.Interval.{whole_windows}
 use Rattle.ss_model.proofs.AskedLemmas.{Asked, whole, apart, split, asked-of, asked-append, total-alone, least-alone, greatest-alone}
 
@@ -36,6 +38,14 @@ AreOf-exactly (w ∷ ws) values of = (of.0, of.1, of.2, of.3, ap unfiltered of.4
 abbrev SumsLie : List (SplitFigures × List ℤ) → Type 0
 SumsLie [] = Unit {0}
 SumsLie (w ∷ ws) = ((sum_interval w.0).0 ≤ℤ total w.1) × (total w.1 ≤ℤ (sum_interval w.0).1) × SumsLie ws
+
+-- the sum and the count of some values, and so many with this sum may be those of each split window
+abbrev pub amount : List ℤ → Fraction
+amount values = record { over = total values; under = length values }
+
+abbrev pub AllMayHave : List (SplitFigures × List ℤ) → Type 0
+AllMayHave [] = Unit {0}
+AllMayHave (w ∷ ws) = MayHave w.0 (amount w.1) × AllMayHave ws
 
 abbrev sums_of : List Window → ℤ
 sums_of ws = total (map (λ (w : Window). w.summary.sum) ws)
@@ -133,21 +143,23 @@ module _ (free : ℕ → Bool) where
 
 module _ (free : ℕ → Bool) (from to : ℕ) where
   -- the values asked for are those of the whole windows and those of each window that the range splits
-  record Parted (ws : List Window) (values : List Point) : Type 0 where
-    splits : List (SplitFigures × List ℤ)
-    windows : windows_alone splits ≡ split_windows free from to ws
-    may : MayAllLieThere splits
-    sums : SumsLie splits
-    count : length (asked from to values) ≡ counts_of (whole_windows from to ws) + length (values_of_all splits)
-    sum : total (asked from to values) ≡ (sums_of (whole_windows from to ws) +ℤ total (values_of_all splits))
-    least : least_in (asked from to values) ≡ lesser (least_in (mins_of (whole_windows from to ws))) (least_in (values_of_all splits))
-    greatest : greatest_in (asked from to values) ≡ greater (greatest_in (maxs_of (whole_windows from to ws))) (greatest_in (values_of_all splits))
+  pub record Parted (ws : List Window) (values : List Point) : Type 0 where
+    pub splits : List (SplitFigures × List ℤ)
+    pub windows : windows_alone splits ≡ split_windows free from to ws
+    pub may : MayAllLieThere splits
+    pub have : AllMayHave splits
+    pub sums : SumsLie splits
+    pub count : length (asked from to values) ≡ counts_of (whole_windows from to ws) + length (values_of_all splits)
+    pub sum : total (asked from to values) ≡ (sums_of (whole_windows from to ws) +ℤ total (values_of_all splits))
+    pub least : least_in (asked from to values) ≡ lesser (least_in (mins_of (whole_windows from to ws))) (least_in (values_of_all splits))
+    pub greatest : greatest_in (asked from to values) ≡ greater (greatest_in (maxs_of (whole_windows from to ws))) (greatest_in (values_of_all splits))
 
   parted-none : Parted [] []
   parted-none = record {
     splits = [];
     windows = refl;
     may = tt;
+    have = tt;
     sums = tt;
     count = refl;
     sum = refl;
@@ -163,6 +175,7 @@ module _ (free : ℕ → Bool) (from to : ℕ) where
         splits = later.splits;
         windows = rw not_split later.windows;
         may = later.may;
+        have = later.have;
         sums = later.sums;
         count = rw (values, not_whole) later.count;
         sum = rw (values, not_whole) later.sum;
@@ -182,6 +195,7 @@ module _ (free : ℕ → Bool) (from to : ℕ) where
         splits = (split_figures free from to w, front) ∷ later.splits;
         windows = rw splits_it (ap (λ z. split_figures free from to w ∷ z) later.windows);
         may = (asked-MayLieThere free from to p ps (split_figures free from to w) figures, later.may);
+        have = (asked-MayHave free from to p ps (split_figures free from to w) figures, later.have);
         sums = (sum.0, sum.1, later.sums);
         count = rw (values, not_whole) (omega (arith, length-append front behind, length-append front inner, later.count));
         sum = rw (values, not_whole) (omega (arith, ints, total-append front behind, total-append front inner, later.sum));
@@ -206,6 +220,7 @@ module _ (free : ℕ → Bool) (from to : ℕ) where
         splits = later.splits;
         windows = rw not_split later.windows;
         may = later.may;
+        have = later.have;
         sums = later.sums;
         count = rw (values, is_in)
             (omega (arith, length-append front behind, length-alone (p ∷ ps), sum_by-cons (λ (v : Window). v.summary.count) w known, later.count));
@@ -220,7 +235,7 @@ module _ (free : ℕ → Bool) (from to : ℕ) where
   parted-next w ws p ps rest is (apart not_whole not_split none) later = parted-apart w ws (p ∷ ps) rest not_whole not_split none later
   parted-next w ws p ps rest is (split not_whole splits_it figures) later = parted-split w ws p ps rest not_whole splits_it figures later
 
-  parted-all : (ws : List Window) (values : List Point) (start : ℕ) → AreOf ws values → RiseAtFree free start values → Parted ws values
+  pub parted-all : (ws : List Window) (values : List Point) (start : ℕ) → AreOf ws values → RiseAtFree free start values → Parted ws values
   parted-all = over-windows free AreAlike Parted parted-none
       (λ w ws p ps rest is rising later. parted-next w ws p ps rest is (asked-of free from to w p ps is rising) later)
 

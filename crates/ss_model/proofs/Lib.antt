@@ -5,6 +5,7 @@ mod HistoryRows
 mod MarkRows
 mod QueryRows
 mod AnswerRows
+mod MeanAnswerRows
 mod PresenceRows
 mod SeriesRows
 pub mod Rises
@@ -31,6 +32,8 @@ pub mod OutlineLemmas
 pub mod OriginLemmas
 pub mod AskedLemmas
 pub mod IntervalLemmas
+pub mod MeanLemmas
+pub mod OpenMeanLemmas
 pub mod SplitLemmas
 pub mod PieceLemmas
 pub mod PresenceLemmas

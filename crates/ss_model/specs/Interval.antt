@@ -10,6 +10,13 @@ use Rattle.ss_bounds.specs.Split.{SplitFigures, least_count, greatest_count, sum
 use Rattle.ss_bounds.specs.Times.{split_of}
 use Rattle.ss_bounds.specs.Extremes.{min_interval, max_interval}
 use Rattle.ss_bounds.specs.Either.{least_in, greatest_in}
+use Rattle.ss_bounds.specs.declared.fraction.Fraction.{Fraction}
+use Rattle.ss_bounds.specs.declared.mean.Mean.{Mean}
+use Rattle.ss_bounds.specs.declared.mean.Mean.TheVariants as means
+use Rattle.ss_bounds.specs.declared.mean.MeanGuess.{MeanGuess}
+use Rattle.ss_bounds.specs.declared.mean.MeanGuess.TheVariants as guesses
+use Rattle.ss_bounds.specs.MeanGuess.{mean_guess}
+use Rattle.ss_bounds.specs.Means.{mean_interval}
 use Rattle.ss_bounds.specs.Truth.{asked, total}
 use Rattle.ss_summary.specs.Points.{Point}
 use Rattle.ss_model.specs.Truth.{is_one_of}
@@ -56,6 +63,10 @@ abbrev pub known_maxs : ℕ → ℕ → List Window → List Point → List ℤ
 known_maxs from to windows marked =
     map (λ (w : Window). w.summary.max) (whole_windows from to windows) ++ asked from to marked
 
+-- their sum and their count, of which the mean is made
+abbrev pub known_values : ℕ → ℕ → List Window → List Point → Fraction
+known_values from to windows marked = record { over = known_sum from to windows marked; under = known_count from to windows marked }
+
 -- the answers
 abbrev pub interval_of_count : (ℕ → Bool) → ℕ → ℕ → List Window → List Point → ℕ × ℕ
 interval_of_count free from to windows marked =
@@ -76,6 +87,12 @@ interval_of_least free from to windows marked =
 abbrev pub interval_of_greatest : (ℕ → Bool) → ℕ → ℕ → List Window → List Point → Extreme
 interval_of_greatest free from to windows marked =
     max_interval (greatest_in (known_maxs from to windows marked)) (split_windows free from to windows)
+
+abbrev pub interval_of_mean : (ℕ → Bool) → ℕ → ℕ → List Window → List Point → Mean
+interval_of_mean free from to windows marked = mean_interval (known_values from to windows marked) (split_windows free from to windows)
+
+abbrev pub guess_of_mean : (ℕ → Bool) → ℕ → ℕ → List Window → List Point → MeanGuess
+guess_of_mean free from to windows marked = mean_guess (known_values from to windows marked) (split_windows free from to windows)
 
 -- a value may be one of those of a window: it isn't less than the least of them or greater than the greatest, and the filter has
 -- its bit
@@ -105,3 +122,15 @@ abbrev pub IsExact : Extreme → Type 0
 IsExact extremes.Nothing = Unit {0}
 IsExact (extremes.Sure lo hi) = lo ≡ hi
 IsExact (extremes.Maybe lo hi) = ⊥
+
+-- what is known of a mean leaves nothing open
+abbrev pub IsExactMean : Mean → Type 0
+IsExactMean means.Nothing = Unit {0}
+IsExactMean (means.Sure lo hi) = lo ≡ hi
+IsExactMean (means.Maybe lo hi) = ⊥
+
+-- with a guess, which is that number too
+abbrev pub IsExactMeanGuess : MeanGuess → Type 0
+IsExactMeanGuess guesses.Nothing = Unit {0}
+IsExactMeanGuess (guesses.Sure lo guess hi) = (lo ≡ guess) × (guess ≡ hi)
+IsExactMeanGuess (guesses.Maybe lo guess hi) = ⊥

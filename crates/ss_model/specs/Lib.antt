@@ -17,6 +17,7 @@ pub mod Outline
 pub mod Origins
 pub mod Truth
 pub mod Interval
+pub mod OpenMeans
 pub mod Newest
 pub mod NewestTruth
 pub mod Answers

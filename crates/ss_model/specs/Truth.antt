@@ -6,6 +6,7 @@ use Rattle.std.specs.Ordering.{int_eq}
 use Rattle.std.specs.List.{list_any}
 use Rattle.ss_bounds.specs.Either.{least_in, greatest_in}
 use Rattle.ss_bounds.specs.Truth.{asked, total}
+use Rattle.ss_bounds.specs.declared.fraction.Fraction.{Fraction}
 use Rattle.ss_catalog.specs.declared.query.Kind.{Kind}
 use Rattle.ss_catalog.specs.declared.query.Kind.TheVariants as kinds
 
@@ -24,7 +25,11 @@ true_count from to plain marked = length (all_asked from to plain marked)
 abbrev pub true_sum : ℕ → ℕ → List Point → List Point → ℤ
 true_sum from to plain marked = total (all_asked from to plain marked)
 
--- what a guess is of: how many they are, or else their sum
+-- both: their mean is the sum over the count
+abbrev pub true_values : ℕ → ℕ → List Point → List Point → Fraction
+true_values from to plain marked = record { over = true_sum from to plain marked; under = true_count from to plain marked }
+
+-- what a guess of a count or of a sum is of: how many they are, or else their sum
 abbrev pub true_amount : Kind → ℕ → ℕ → List Point → List Point → ℤ
 true_amount kinds.CountGuess from to plain marked = pos (true_count from to plain marked)
 true_amount _ from to plain marked = true_sum from to plain marked

@@ -41,7 +41,7 @@ pub use outcome::{Outcome, Presence};
 pub use outline_laws::refusals_read_outlines;
 pub use query_laws::{
     answers_hold_the_truth, answers_hold_the_truth_of_histories, one_of_some_is_among_them,
-    unsplit_answers_are_exact,
+    one_window_leaves_means_open, unsplit_answers_are_exact,
 };
 pub use series_laws::rows_hold_the_truth;
 pub use step_laws::whole_steps_are_exact;

@@ -1,5 +1,5 @@
 // What is answered to a query.
-use ss_bounds::Extreme;
+use ss_bounds::{Extreme, Mean, MeanGuess};
 
 /// What is known of whether a value is among those asked for.
 #[derive(Clone, Copy, Debug, PartialEq, Eq)]
@@ -25,8 +25,12 @@ pub enum Outcome {
     Min(Extreme),
     /// What is known of the greatest value.
     Max(Extreme),
+    /// What is known of the mean.
+    Mean(Mean),
     /// What is known of whether a value is there.
     Has(Presence),
     /// A count or a sum from `lo` to `hi`, and the likeliest one.
     Estimate { lo: i128, guess: i128, hi: i128 },
+    /// What is known of the mean, and the likeliest one.
+    MeanEstimate(MeanGuess),
 }

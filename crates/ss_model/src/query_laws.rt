@@ -1,18 +1,23 @@
 // Laws on the answers to queries, each the contract of a function that does nothing.
 ghost use Rattle.std.specs.Prelude.{◌≡◌, ◌↔◌, ℕ, ◌≤◌, Bool, ℤ, ◌≤ℤ◌, List, [], All, Contains, IsTrue};
 ghost use Rattle.ss_catalog.specs.declared.event.Event.{Event};
+ghost use Rattle.ss_bounds.specs.declared.fraction.Fraction.{Fraction};
+ghost use Rattle.ss_bounds.specs.declared.mean.Mean.TheVariants as means;
+ghost use Rattle.ss_bounds.specs.MeanTruth.{HoldsMean};
 ghost use Rattle.ss_bounds.specs.Truth.{HoldsExtreme};
 ghost use Rattle.ss_landmarks.specs.Free.{is_free};
 ghost use Rattle.ss_summary.specs.Points.{Point};
 ghost use Rattle.ss_model.specs.Answers.{HoldsPresence};
-ghost use Rattle.ss_model.specs.Interval.{interval_of_count, interval_of_greatest, interval_of_least, interval_of_sum, IsExact};
+ghost use Rattle.ss_model.specs.Interval.{interval_of_count, interval_of_greatest, interval_of_least, interval_of_mean, interval_of_sum, IsExact, IsExactMean};
 ghost use Rattle.ss_model.specs.Interval.{presence_of, split_windows};
 ghost use Rattle.ss_model.specs.History.{marked_of, values_of, Happened};
 ghost use Rattle.ss_model.specs.Marks.{marked_values};
+ghost use Rattle.ss_model.specs.OpenMeans.{IsOpenByOne};
 ghost use Rattle.ss_model.specs.Refusals.{IsHistory};
+ghost use Rattle.ss_model.specs.Standing.{IsStream};
 ghost use Rattle.ss_targets.specs.Rule.{Rule};
-ghost use Rattle.ss_model.specs.State.{state};
-ghost use Rattle.ss_model.specs.Truth.{is_one_of, RiseAtFree, true_count, true_greatest, true_least, true_presence, true_sum};
+ghost use Rattle.ss_model.specs.State.{Stream, state};
+ghost use Rattle.ss_model.specs.Truth.{is_one_of, RiseAtFree, true_count, true_greatest, true_least, true_presence, true_sum, true_values};
 ghost use Rattle.ss_model.specs.Windows.{windows};
 ghost use Rattle.ss_model.specs.declared.types.Window.{Window};
 
@@ -29,6 +34,8 @@ pub fn answers_hold_the_truth()
         HoldsExtreme (interval_of_least free from to (windows rule plain) marked) (true_least from to plain marked) }
     ensures greatest { (rule : Rule) (free : ℕ → Bool) (from to : ℕ) (plain marked : List Point) → RiseAtFree free 0 plain →
         HoldsExtreme (interval_of_greatest free from to (windows rule plain) marked) (true_greatest from to plain marked) }
+    ensures mean { (rule : Rule) (free : ℕ → Bool) (from to : ℕ) (plain marked : List Point) → RiseAtFree free 0 plain →
+        HoldsMean (interval_of_mean free from to (windows rule plain) marked) (true_values from to plain marked) }
     ensures presence { (value : ℤ) (rule : Rule) (free : ℕ → Bool) (from to : ℕ) (plain marked : List Point) → RiseAtFree free 0 plain →
         HoldsPresence (presence_of value free from to (windows rule plain) marked) (true_presence value from to plain marked) }
 {}
@@ -50,6 +57,9 @@ pub fn answers_hold_the_truth_of_histories()
     ensures greatest { (history : List Happened) (from to : ℕ) → IsHistory history →
         All (λ s. HoldsExtreme (interval_of_greatest (is_free s.landmarks) from to s.windows (marked_values s.landmarks))
         (true_greatest from to (values_of history s.name) (marked_of history s.name))) (state history) }
+    ensures mean { (history : List Happened) (from to : ℕ) → IsHistory history →
+        All (λ s. HoldsMean (interval_of_mean (is_free s.landmarks) from to s.windows (marked_values s.landmarks))
+        (true_values from to (values_of history s.name) (marked_of history s.name))) (state history) }
     ensures presence { (value : ℤ) (history : List Happened) (from to : ℕ) → IsHistory history →
         All (λ s. HoldsPresence (presence_of value (is_free s.landmarks) from to s.windows (marked_values s.landmarks))
         (true_presence value from to (values_of history s.name) (marked_of history s.name))) (state history) }
@@ -66,6 +76,16 @@ pub fn unsplit_answers_are_exact()
         IsExact (interval_of_least free from to ws marked) }
     ensures greatest { (free : ℕ → Bool) (from to : ℕ) (ws : List Window) (marked : List Point) → split_windows free from to ws ≡ [] →
         IsExact (interval_of_greatest free from to ws marked) }
+    ensures mean { (free : ℕ → Bool) (from to : ℕ) (ws : List Window) (marked : List Point) → split_windows free from to ws ≡ [] →
+        IsExactMean (interval_of_mean free from to ws marked) }
+{}
+
+/// It is left open whether there is a mean by one window alone: the range splits it and no other, and no value is known beside it. The ends
+/// are this window's least and greatest value.
+pub fn one_window_leaves_means_open()
+    ensures { (s : Stream) (from to : ℕ) (lo hi : Fraction) → IsStream s →
+        interval_of_mean (is_free s.landmarks) from to s.windows (marked_values s.landmarks) ≡ means.Maybe lo hi →
+        IsOpenByOne from to s.windows (marked_values s.landmarks) lo hi }
 {}
 
 /// The truth of whether a value is there is true exactly where the values that are asked for contain it.

@@ -14,8 +14,8 @@ ghost use Rattle.ss_model.specs.declared.outcome.Outcome.{Outcome};
 
 /// A range of whole steps splits no window of a stream that keeps to this step, and nor does one that begins at a boundary and ends at the
 /// newest time or after it, such as one to the last time of all. So what is answered of it leaves nothing open, but for whether a value is
-/// there: each count, sum and likeliest value is one number, each least and greatest value too, where there is one. So is each row of a
-/// series whose ends and steps are such.
+/// there: each count and sum is one number, each mean, least and greatest value too, where there is one, and the likeliest is that number.
+/// So is each row of a series whose ends and steps are such.
 pub fn whole_steps_are_exact()
     ensures windows { (s : Stream) (step from to : ℕ) → IsStream s → s.params.within ≡ Some step →
         AreWholeSteps step (newest_time s.windows) from to → All (λ w. is_split from to w ≡ false) s.windows }

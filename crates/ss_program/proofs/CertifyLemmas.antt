@@ -1,6 +1,6 @@
 -- What a certificate brings, and that the evidence that is made for it is right.
 use Rattle.ss_program.proofs.Common.{◌≡◌, ℕ, ◌<◌, true, false, ◌↔◌, List, [], ◌∷◌, length, Ok, Option, Some, None, IsTrue, refl, ap, ◌∙◌, arith}
-use Rattle.ss_program.proofs.Common.{inl, inr, cases_Bool, length-append, flat_map, is_some, option_map, adds_up, End, Query, Refusal, All-named}
+use Rattle.ss_program.proofs.Common.{inl, inr, cases_Bool, length-append, flat_map, is_some, option_map, is_certified, End, Query, Refusal, All-named}
 use Rattle.ss_program.proofs.Common.{HasCuts-seen_of, ChecksEvidence, evidence_in, IsEvidence, evidence_of, head_of, side_of, told, Evidence, Certify, stands}
 use Rattle.ss_program.proofs.Common.{Stream, state, stream_named, shown-sealed, IsSealed, DiskView, OfContent, Told, seen_of, RecordsState, shown_by, said_line}
 use Rattle.ss_program.proofs.Common.{Reply, StoreState, Recovers, Recovers-StoreIsIn, IsOpen, HasEvidence, History, certified, command_brings, refused}
@@ -33,7 +33,7 @@ evidence-known streams query end none =
     some-mapped (λ s. evidence_of query.kind end (seen_of query.kind query.from query.to s)) (stream_named query.name streams) (query-stands streams query none)
 
 -- and that is right
-pub evidence-right : (streams : List Stream) (query : Query) (end : End) (w : Evidence) → IsState streams → adds_up query.kind ≡ true →
+pub evidence-right : (streams : List Stream) (query : Query) (end : End) (w : Evidence) → IsState streams → is_certified query.kind ≡ true →
     evidence_in streams query end ≡ Some w →
     (s : Stream) × (stream_named query.name streams ≡ Some s) × IsStream s × IsEvidence query.kind end (seen_of query.kind query.from query.to s) w
 evidence-right streams query end w is adds has =
@@ -53,7 +53,7 @@ Recovers-only_replies records content streams sealed recovers = rw shown-sealed 
 
 -- so what a store makes isn't found wrong, on a disk that tells
 pub never-wrong : (store : StoreState) (disk : DiskView) (query : Query) (end : End) (w : Evidence) (new : Told) → IsOpen disk store →
-    adds_up query.kind ≡ true → OfContent disk (HasEvidence query end w) →
+    is_certified query.kind ≡ true → OfContent disk (HasEvidence query end w) →
     (IsTrue disk.tells → ChecksEvidence store.records query end w (Ok false) disk.told new) → IsTrue disk.tells → ⊥
 never-wrong store disk query end w new opens adds made checks told =
     let content = disk.told.content in

@@ -7,11 +7,11 @@ use Rattle.ss_bounds.specs.Attained.{greatest_sum_at, least_sum_at}
 use Rattle.ss_bounds.specs.Split.{sum_interval}
 use Rattle.ss_catalog.specs.Names.{is_name}
 use Rattle.ss_certify.specs.Fill.{fill}
+use Rattle.ss_certify.specs.Shown.{IsAnswerOfLike}
 use Rattle.ss_command.specs.Grammar.{meaning}
 use Rattle.ss_command.specs.Lines.{ended_lines, unended}
 use Rattle.ss_command.specs.Words.{words}
 use Rattle.ss_fields.specs.Words.{is_number, number_of, number_up_to, signed_of}
-use Rattle.ss_laws.specs.Attained.{IsTruthOfLike}
 use Rattle.ss_laws.specs.Contents.{contents_of}
 use Rattle.ss_model.specs.Answers.{outcome_of, refuses_query}
 use Rattle.ss_model.specs.State.{state}
@@ -63,7 +63,7 @@ module _ (history : History) (query : Query) (end : End) (w : Evidence) (sharp :
   sharp-evidence : IsEvidence query.kind end (seen_of query.kind query.from query.to sharp.stream) w
   sharp-evidence = sharp.evidence
 
-  sharp-attained : IsTruthOfLike (contents_of history sharp.stream) query w.answer
+  sharp-attained : IsAnswerOfLike (contents_of history sharp.stream) query w.answer
   sharp-attained = sharp.attained
 
   sharp-answered : outcome_of (state history) query ≡ Some sharp.outcome

@@ -27,7 +27,7 @@ pub use Rattle.ss_bounds.specs.Split.{SplitFigures, greatest_count, least_count,
 pub use Rattle.ss_catalog.specs.Events.{event_name}
 pub use Rattle.ss_catalog.specs.Names.{same_name, is_name}
 pub use Rattle.ss_catalog.specs.Params.{exp, step_number}
-pub use Rattle.ss_catalog.specs.Queries.{adds_up, is_guess, series_verb}
+pub use Rattle.ss_catalog.specs.Queries.{is_certified, is_guess, series_verb}
 pub use Rattle.ss_catalog.specs.Series.{row_query, row_start, rows_of, row_count, whole_query, numbers_from}
 pub use Rattle.ss_catalog.specs.declared.event.Event.{Event}
 pub use Rattle.ss_catalog.specs.declared.event.Event.TheVariants.{Create, Value, Open, Close, Drop}
@@ -38,10 +38,10 @@ pub use Rattle.ss_catalog.specs.declared.query.Query.{Query}
 pub use Rattle.ss_catalog.specs.declared.refusal.Refusal.{Refusal}
 pub use Rattle.ss_catalog.specs.declared.refusal.Refusal.TheVariants.{Unknown, Range}
 pub use Rattle.ss_catalog.specs.declared.series.Series.{Series}
-pub use Rattle.ss_certify.proofs.SharpLemmas.{All-named, HasCuts-seen_of, MayBeTrue-answer, end_asked-answer}
+pub use Rattle.ss_certify.proofs.SharpLemmas.{All-named, HasCuts-seen_of, MayBeAnswer-answer, end_asked-answer}
 pub use Rattle.ss_certify.specs.Called.{evidence_in, ChecksEvidence}
-pub use Rattle.ss_certify.specs.Evidence.{base_of, certified_sum, IsEvidence, end_asked}
-pub use Rattle.ss_certify.specs.Made.{certificate_of, evidence_of}
+pub use Rattle.ss_certify.specs.Evidence.{answer_from, with_certified, IsEvidence, end_asked}
+pub use Rattle.ss_certify.specs.Made.{certificates_of, evidence_of}
 pub use Rattle.ss_certify.specs.Told.{head_of, side_of, told}
 pub use Rattle.ss_certify.specs.declared.evidence.Evidence.{Evidence}
 pub use Rattle.ss_command.proofs.SayLemmas.{meant-sayable}
@@ -86,7 +86,7 @@ pub use Rattle.ss_model.specs.Truth.{true_presence, is_one_of}
 pub use Rattle.ss_model.specs.Windows.{newest_time, taken, time_of_last}
 pub use Rattle.ss_model.specs.declared.newest.Newest.{Newest}
 pub use Rattle.ss_model.specs.declared.outcome.Outcome.{Outcome}
-pub use Rattle.ss_model.specs.declared.outcome.Outcome.TheVariants.{Has, Count, Sum, Min, Max, Estimate}
+pub use Rattle.ss_model.specs.declared.outcome.Outcome.TheVariants.{Has, Count, Sum, Min, Max, Mean, Estimate, MeanEstimate}
 pub use Rattle.ss_model.specs.declared.outcome.Presence.{Presence}
 pub use Rattle.ss_model.specs.declared.outcome.Presence.TheVariants.{Maybe, Absent, Present}
 pub use Rattle.ss_model.specs.declared.types.Ack.{Ack}

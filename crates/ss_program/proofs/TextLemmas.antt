@@ -5,7 +5,8 @@ use Rattle.ss_program.proofs.Common.{Reply, Answered, Refused, SeriesHead, Row, 
 use Rattle.ss_program.proofs.Common.{Closed, Framed}
 use Rattle.std.specs.Fmt.{decimal, signed_decimal}
 use Rattle.ss_catalog.specs.Refusal.{refusal_name}
-use Rattle.ss_report.specs.declared.reply.Reply.TheVariants.{Done as AckLine, Stream as StreamRow, Last, Value, Old, Gap}
+use Rattle.ss_report.specs.MeanText.{mean_end_word}
+use Rattle.ss_report.specs.declared.reply.Reply.TheVariants.{CertifyMeanHead, Done as AckLine, Stream as StreamRow, Last, Value, Old, Gap}
 
 -- a line of words isn't empty
 spaced_line-some : (first : List ℕ) (rest : List (List ℕ)) → 0 < length (spaced_line first rest)
@@ -24,6 +25,8 @@ reply_line-some (Window w) = spaced_line-some (decimal w.first)
 reply_line-some (ListHead count) = spaced_line-some (codes "list") (decimal count ∷ [])
 reply_line-some (CertifyHead answer base count) =
     spaced_line-some (codes "certify") (signed_decimal answer ∷ signed_decimal base ∷ decimal count ∷ [])
+reply_line-some (CertifyMeanHead answer known count) =
+    spaced_line-some (codes "certify") (mean_end_word answer ∷ signed_decimal known.over ∷ decimal known.under ∷ decimal count ∷ [])
 reply_line-some (Side side) =
     spaced_line-some (if side.inner then codes "inside" else codes "outside")
     (decimal side.first ∷ decimal side.last ∷ decimal side.values ∷ run_words side.runs)

@@ -5,9 +5,9 @@ use Rattle.ss_catalog.specs.declared.query.Kind.{Kind}
 use Rattle.ss_catalog.specs.declared.query.Query.{Query}
 use Rattle.ss_certify.specs.Called.{evidence_in}
 use Rattle.ss_certify.specs.Evidence.{end_asked, IsEvidence, IsRight}
+use Rattle.ss_certify.specs.Shown.{IsAnswerOfLike}
 use Rattle.ss_certify.specs.Told.{told}
 use Rattle.ss_certify.specs.declared.evidence.Evidence.{Evidence}
-use Rattle.ss_laws.specs.Attained.{IsTruthOfLike}
 use Rattle.ss_laws.specs.Contents.{contents_of}
 use Rattle.ss_model.specs.Answers.{outcome_of}
 use Rattle.ss_model.specs.State.{Stream, state, stream_named}
@@ -35,6 +35,6 @@ pub record IsSharp (history : History) (query : Query) (end : End) (w : Evidence
   pub outcome : Outcome
   pub named : stream_named query.name (state history) ≡ Some stream
   pub evidence : IsEvidence query.kind end (seen_of query.kind query.from query.to stream) w
-  pub attained : IsTruthOfLike (contents_of history stream) query w.answer
+  pub attained : IsAnswerOfLike (contents_of history stream) query w.answer
   pub answered : outcome_of (state history) query ≡ Some outcome
   pub asked : end_asked end outcome ≡ Some w.answer

@@ -9,7 +9,7 @@ use Rattle.ss_report.specs.Text.{reply_line}
 use Rattle.ss_report.specs.declared.reply.Reply.{Reply}
 use Rattle.ss_report.specs.declared.reply.Reply.TheVariants.{Done as AckLine, Answered, Refused, SeriesHead, Row, WindowsHead, Window}
 use Rattle.ss_report.specs.declared.reply.Reply.TheVariants.{ListHead, Stream, CertifyHead, Side, Last, ValuesHead, Value as MarkedValue, Cursor, Rows, Closed}
-use Rattle.ss_report.specs.declared.reply.Reply.TheVariants.{Old, Gap, Framed}
+use Rattle.ss_report.specs.declared.reply.Reply.TheVariants.{CertifyMeanHead, Old, Gap, Framed}
 use Rattle.ss_store.specs.Uses.{StandsShort}
 use Rattle.ss_program.specs.Held.{StandsShortForFirst}
 use Rattle.ss_program.specs.Line.{History}
@@ -35,6 +35,7 @@ is_done (Window placed) = false
 is_done (ListHead count) = false
 is_done (Stream row) = false
 is_done (CertifyHead answer base count) = false
+is_done (CertifyMeanHead answer known count) = false
 is_done (Side side) = false
 is_done (Last newest) = false
 is_done (ValuesHead count) = false
@@ -57,6 +58,7 @@ is_refused (Window placed) = false
 is_refused (ListHead count) = false
 is_refused (Stream row) = false
 is_refused (CertifyHead answer base count) = false
+is_refused (CertifyMeanHead answer known count) = false
 is_refused (Side side) = false
 is_refused (Last newest) = false
 is_refused (ValuesHead count) = false

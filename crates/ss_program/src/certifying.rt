@@ -1,6 +1,6 @@
 // Shows why an end of an answer can't be narrower, filters aside: the evidence is made and checked, and then sent.
 ghost use Rattle.std.specs.Prelude.{◌≡◌, true, IsTrue, IfOk, IfErr, None, OnOk};
-ghost use Rattle.ss_catalog.specs.Queries.{adds_up};
+ghost use Rattle.ss_catalog.specs.Queries.{is_certified};
 ghost use Rattle.ss_certify.specs.Evidence.{IsRight};
 ghost use Rattle.ss_certify.specs.Told.{told};
 ghost use Rattle.ss_command.specs.declared.command.Command.TheVariants.{Certify};
@@ -34,7 +34,7 @@ fn make_evidence<D: Disk>(
     end: End,
     disk: &mut D,
 ) -> Result<Evidence, Status>
-    requires kind { IsTrue (adds_up query.now.kind) }
+    requires kind { IsTrue (is_certified query.now.kind) }
     requires open { IsOpen (D.seen disk.old) store.old }
     requires taken { refuses_query_held store.old.streams query.now ≡ None }
     ensures finds { Step (disk_verdict (ended result)) (D.seen disk.old) (D.seen disk.new) (ReadsAnswer (HasEvidence query.now end) result) }
@@ -59,7 +59,7 @@ fn check_evidence<D: Disk>(
     evidence: &Evidence,
     disk: &mut D,
 ) -> Result<(), Status>
-    requires kind { IsTrue (adds_up query.now.kind) }
+    requires kind { IsTrue (is_certified query.now.kind) }
     requires open { IsOpen (D.seen disk.old) store.old }
     requires taken { refuses_query_held store.old.streams query.now ≡ None }
     requires made { OfContent (D.seen disk.old) (HasEvidence query.now end evidence.now) }
@@ -85,7 +85,7 @@ fn find_evidence<D: Disk>(
     end: End,
     disk: &mut D,
 ) -> Result<Evidence, Status>
-    requires kind { IsTrue (adds_up query.now.kind) }
+    requires kind { IsTrue (is_certified query.now.kind) }
     requires open { IsOpen (D.seen disk.old) store.old }
     requires taken { refuses_query_held store.old.streams query.now ≡ None }
     ensures finds { Step (disk_verdict (ended result)) (D.seen disk.old) (D.seen disk.new) (ReadsAnswer (HasEvidence query.now end) result) }
@@ -122,7 +122,7 @@ pub fn show_certificate<D: Disk, K: Sink>(
     sink: &mut K,
 ) -> Result<(), Status>
     requires speaker { IsSpeaker speaker }
-    requires kind { IsTrue (adds_up query.now.kind) }
+    requires kind { IsTrue (is_certified query.now.kind) }
     requires open { IsOpen (D.seen disk.old) store.old }
     ensures shows { Shows (IsTextBrought speaker (Certify query.now end)) (over (D.seen disk.old) (K.held sink.old) (K.faults sink.old))
         (over (D.seen disk.new) (K.held sink.new) (K.faults sink.new)) store.new result }

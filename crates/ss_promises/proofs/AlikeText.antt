@@ -2,7 +2,7 @@
 use Rattle.ss_program.proofs.Common.{◌≡◌, ◌⊎◌, ◌∙◌, ℕ, ℤ, List, [], ◌∷◌, ◌++◌, length, Option, Some, None, Result, Ok, Err, refl, sym, ap, ap₂, inl, inr}
 use Rattle.ss_program.proofs.Common.{arith, common_steps, ◌+ℤ◌, All, false, flat_map, map, option_map, pos, length-map, map-append, All-head, All-tail, listed}
 use Rattle.ss_program.proofs.Common.{event_name, row_query, row_start, rows_of, row_count, whole_query, Event, End, Kind, Query, Refusal, Series, evidence_in}
-use Rattle.ss_program.proofs.Common.{base_of, certified_sum, certificate_of, evidence_of, Evidence, meant-sayable, meaning, IsSayable, takes_value, Command, Do}
+use Rattle.ss_program.proofs.Common.{answer_from, with_certified, certificates_of, evidence_of, Evidence, meant-sayable, meaning, IsSayable, takes_value, Command, Do}
 use Rattle.ss_program.proofs.Common.{Ask}
 use Rattle.ss_program.proofs.Common.{Certify, Last, Values, Windows, is_free, history-old, state-old, answer_of, refuses_query, added, marked_values, newest_in}
 use Rattle.ss_program.proofs.Common.{refuses_values, as_old, unfiltered_stream, unfiltered_window, IsHistory, refuses, refuses_reading, refuses_series, Stream}
@@ -18,7 +18,9 @@ use Rattle.ss_promises.proofs.AlikeLemmas.{AreSeenAlike, ack-old, count-seen, ne
 use Rattle.ss_promises.proofs.AlikeLemmas.{refuses_values-old, rows-old, seen-old, sum-seen, windows-told}
 use Rattle.ss_program.proofs.AnswerLemmas.{event-or-none}
 use Rattle.ss_promises.proofs.OldLemmas.{kind-has, named-old, origins-alike, read-old}
+use Rattle.ss_bounds.specs.declared.fraction.Fraction.{Fraction}
 use Rattle.ss_catalog.specs.declared.query.Kind.TheVariants as kinds
+use Rattle.ss_query.specs.Asked.{values_seen}
 
 -- an image of the streams of a history but for their filters
 pub Stands-old : (history : History) (image : List ℕ) → IsHistory history → Recovers (map unfiltered_stream (state history)) image →
@@ -30,25 +32,19 @@ Stands-old history image whole is = record {
 
 -- ---- evidence
 
-base-alike : (kind : Kind) (one other : Seen) → AreSeenAlike one other → base_of kind one ≡ base_of kind other
-base-alike kinds.Count one other alike =
-    ap pos (count-seen one.whole other.whole one.marked alike.whole ∙ ap (seen_count other.whole) alike.marked)
-base-alike kinds.Sum one other alike = sum-seen one.whole other.whole one.marked alike.whole ∙ ap (seen_sum other.whole) alike.marked
-base-alike kinds.Min one other alike = refl
-base-alike kinds.Max one other alike = refl
-base-alike (kinds.Has v) one other alike = refl
-base-alike kinds.CountGuess one other alike = refl
-base-alike kinds.SumGuess one other alike = refl
+values-alike : (one other : Seen) → AreSeenAlike one other → values_seen one ≡ values_seen other
+values-alike one other alike =
+    ap₂ (λ (sum : ℤ) (count : ℕ). (let values : Fraction = record { over = sum; under = count } in values))
+    (sum-seen one.whole other.whole one.marked alike.whole ∙ ap (seen_sum other.whole) alike.marked)
+    (count-seen one.whole other.whole one.marked alike.whole ∙ ap (seen_count other.whole) alike.marked)
 
 evidence-alike : (kind : Kind) (end : End) (one other : Seen) → AreSeenAlike one other → evidence_of kind end one ≡ evidence_of kind end other
 evidence-alike kind end one other alike =
-    let made = λ (base : ℤ) (cuts : List Cut).
-    (let w : Evidence = record {
-      answer = base +ℤ certified_sum kind (map (certificate_of kind end) cuts);
-      base = base;
-      certs = record { items = map (certificate_of kind end) cuts };
-    } in w) in
-    ap₂ made (base-alike kind one other alike) (ap₂ (λ (left right : Option Cut). listed left right) alike.left alike.right)
+    let made = λ (known : Fraction) (cuts : List Cut).
+    (let certs = certificates_of kind end known cuts in
+    let w : Evidence = record { answer = answer_from kind (with_certified known certs); known = known; certs = record { items = certs } } in
+    w) in
+    ap₂ made (values-alike one other alike) (ap₂ (λ (left right : Option Cut). listed left right) alike.left alike.right)
 
 evidence-old : (streams : List Stream) (query : Query) (end : End) → evidence_in (map unfiltered_stream streams) query end ≡ evidence_in streams query end
 evidence-old streams query end =

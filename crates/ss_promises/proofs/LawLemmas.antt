@@ -1,11 +1,11 @@
 -- What a session makes of a history: another one, over which its queries are answered.
 use Rattle.ss_program.proofs.Common.{◌≡◌, ◌∙◌, ◌++◌, List, [], ◌∷◌, ℕ, ℤ, map, Option, Some, None, IsSome, true, Result, Ok, Err, refl, sym, ap, Bool}
-use Rattle.ss_program.proofs.Common.{false, ◌≤ℤ◌, append-nil, Event, Create, Value, Open, Close, Drop, adds_up, is_guess, End, Kind, Query, Refusal, Series}
-use Rattle.ss_program.proofs.Common.{row_count, row_start, rows_of, MayBeTrue-answer, end_asked-answer, evidence_in, told, Evidence, meant-sayable, meaning}
+use Rattle.ss_program.proofs.Common.{append-nil, Event, Create, Value, Open, Close, Drop, is_certified, is_guess, End, Kind, Query, Refusal, Series}
+use Rattle.ss_program.proofs.Common.{row_count, row_start, rows_of, MayBeAnswer-answer, end_asked-answer, evidence_in, told, Evidence, meant-sayable, meaning}
 use Rattle.ss_program.proofs.Common.{IsSayable, Command, Do, Ask, Certify, answer-ends, answer-exact, answer-holds, answer-kind, answer-known, IsHistory_push}
 use Rattle.ss_program.proofs.Common.{IsState-state, row-answered, HasEnds, HoldsPresence, HoldsTruth, IsExactOutcome, IsOfKind, interval_query, outcome_of}
 use Rattle.ss_program.proofs.Common.{refuses_query, split_by, CanBeSaid, added, marked_of, values_of, IsHistory, refuses, AnswersRow, refuses_series, state}
-use Rattle.ss_program.proofs.Common.{true_presence, Outcome, Count, Sum, Min, Max, Has, Estimate, Presence, Reply, Answered, SeriesHead, Row, IsSharp, Brought}
+use Rattle.ss_program.proofs.Common.{true_presence, Outcome, Count, Sum, Min, Max, Mean, Has, Estimate, MeanEstimate, Presence, Point, Reply, Answered, SeriesHead, Row, IsSharp, Brought}
 use Rattle.ss_program.proofs.Common.{History, accepted_in, command_in, meaning_in, brings, command_brings, history_after, meaning_brings, nothing, refused}
 use Rattle.ss_program.proofs.Common.{only_replies, unless_refused, plain_after, replies, inl, inr}
 use Rattle.ss_command.specs.declared.command.Command.TheVariants.{Series as AskRows}
@@ -15,6 +15,7 @@ use Rattle.ss_program.proofs.CertifyLemmas.{brings-certified, evidence-known, ev
 use Rattle.ss_program.proofs.SeriesLemmas.{brings-series, series_rows-map}
 use Rattle.ss_program.proofs.SessionLemmas.{replies-append}
 use Rattle.ss_catalog.specs.declared.query.Kind.TheVariants as kinds
+use Rattle.ss_promises.specs.Guesses.{GuessLiesBetween}
 
 -- an event of a command that a line can say
 pub sayable-said : (event : Event) → IsSayable (Do event) → CanBeSaid event
@@ -84,8 +85,10 @@ presence-of_kind kind value (Count lo hi) asked of = cc
 presence-of_kind kind value (Sum lo hi) asked of = cc
 presence-of_kind kind value (Min extreme) asked of = cc
 presence-of_kind kind value (Max extreme) asked of = cc
+presence-of_kind kind value (Mean known) asked of = cc
 presence-of_kind kind value (Has presence) asked of = (presence, refl)
-presence-of_kind kind value (Estimate lo guess hi) asked of = (let wrong : false ≡ true = sym (ap is_guess asked) ∙ of in cc)
+presence-of_kind kind value (Estimate lo guess hi) asked of = elim of [ inl is ↦ cc | inr is ↦ cc ]
+presence-of_kind kind value (MeanEstimate known) asked of = cc
 
 pub presence-line : (history : History) (line : List ℕ) (query : Query) (value : ℤ) → IsHistory history → meaning line ≡ Ok (Some (Ask query)) →
     query.kind ≡ kinds.Has value → refuses_query (state history) query ≡ None →
@@ -103,33 +106,31 @@ presence-line history line query value whole means asked none =
       rw same at holds.2,
     )
 
--- what is answered to where the likeliest value is asked for
-estimate-of_kind : (kind : Kind) (outcome : Outcome) → is_guess kind ≡ true → IsOfKind kind outcome →
-    (lo : ℤ) × (guess : ℤ) × (hi : ℤ) × (outcome ≡ Estimate lo guess hi)
-estimate-of_kind kind (Count lo hi) asked of = (let wrong : true ≡ false = sym asked ∙ ap is_guess of in cc)
-estimate-of_kind kind (Sum lo hi) asked of = (let wrong : true ≡ false = sym asked ∙ ap is_guess of in cc)
-estimate-of_kind kind (Min extreme) asked of = (let wrong : true ≡ false = sym asked ∙ ap is_guess of in cc)
-estimate-of_kind kind (Max extreme) asked of = (let wrong : true ≡ false = sym asked ∙ ap is_guess of in cc)
-estimate-of_kind kind (Has presence) asked of = (let wrong : true ≡ false = sym asked ∙ ap is_guess of.1 in cc)
-estimate-of_kind kind (Estimate lo guess hi) asked of = (lo, guess, hi, refl)
+-- an answer that holds the truth and has the ends of another has a guess, which lies between them
+guess-between : (query : Query) (plain marked : List Point) (guessed answer : Outcome) → HoldsTruth query plain marked guessed → HasEnds guessed answer →
+    GuessLiesBetween guessed
+guess-between query plain marked (Count lo hi) answer holds ends = absurd ends
+guess-between query plain marked (Sum lo hi) answer holds ends = absurd ends
+guess-between query plain marked (Min extreme) answer holds ends = absurd ends
+guess-between query plain marked (Max extreme) answer holds ends = absurd ends
+guess-between query plain marked (Mean known) answer holds ends = absurd ends
+guess-between query plain marked (Has presence) answer holds ends = absurd ends
+guess-between query plain marked (Estimate lo guess hi) answer holds ends = (holds.2, holds.3)
+guess-between query plain marked (MeanEstimate known) answer holds ends = holds.guess
 
+-- what is answered to where the likeliest value is asked for
 pub estimate-line : (history : History) (line : List ℕ) (query : Query) → IsHistory history → meaning line ≡ Ok (Some (Ask query)) →
     is_guess query.kind ≡ true → refuses_query (state history) query ≡ None →
-    (lo : ℤ) × (guess : ℤ) × (hi : ℤ) × (brings history line ≡ only_replies (Answered (Estimate lo guess hi) ∷ []))
-    × (lo ≤ℤ guess) × (guess ≤ℤ hi)
-    × (answer : Outcome) × (outcome_of (state history) (interval_query query) ≡ Some answer) × HasEnds (Estimate lo guess hi) answer
+    (guessed : Outcome) × (brings history line ≡ only_replies (Answered guessed ∷ []))
+    × GuessLiesBetween guessed
+    × (answer : Outcome) × (outcome_of (state history) (interval_query query) ≡ Some answer) × HasEnds guessed answer
 estimate-line history line query whole means asked none =
     let answered = some-outcome (outcome_of (state history) query) (answer-known (state history) query none) in
-    let it = estimate-of_kind query.kind answered.0 asked (answer-kind (state history) query answered.0 answered.1) in
-    let is : outcome_of (state history) query ≡ Some (Estimate it.0 it.1 it.2) = answered.1 ∙ ap Some it.3 in
-    let holds = answer-holds history query (Estimate it.0 it.1 it.2) whole is in
-    let ends = answer-ends (state history) query (Estimate it.0 it.1 it.2) asked is in (
-      it.0,
-      it.1,
-      it.2,
-      ap (λ m. meaning_brings history m) means ∙ brings-answer_replies history query (Estimate it.0 it.1 it.2) none is,
-      holds.2,
-      holds.3,
+    let holds = answer-holds history query answered.0 whole answered.1 in
+    let ends = answer-ends (state history) query answered.0 asked answered.1 in (
+      answered.0,
+      ap (λ m. meaning_brings history m) means ∙ brings-answer_replies history query answered.0 none answered.1,
+      guess-between query (values_of history query.name) (marked_of history query.name) answered.0 ends.0 holds ends.2,
       ends.0,
       ends.1,
       ends.2,
@@ -152,17 +153,17 @@ answered-series history line series whole means none =
     )
 
 -- the evidence of a stream after a history is sharp
-sharp-evidence : (history : History) (query : Query) (end : End) (w : Evidence) (outcome : Outcome) → IsHistory history → adds_up query.kind ≡ true →
+sharp-evidence : (history : History) (query : Query) (end : End) (w : Evidence) (outcome : Outcome) → IsHistory history → is_certified query.kind ≡ true →
     evidence_in (state history) query end ≡ Some w → outcome_of (state history) query ≡ Some outcome → IsSharp history query end w
-sharp-evidence history query end w outcome whole adds has answered =
+sharp-evidence history query end w outcome whole certified has answered =
     let streams = state history in
-    let right = evidence-right streams query end w (IsState-state history whole) adds has in
+    let right = evidence-right streams query end w (IsState-state history whole) certified has in
     record {
       stream = right.0;
       outcome = outcome;
       named = right.1;
       evidence = right.3;
-      attained = MayBeTrue-answer streams query right.0 end w right.1 right.3 history right.0 whole refl right.1;
+      attained = MayBeAnswer-answer streams query right.0 end w right.1 right.3 history right.0 whole refl right.1;
       answered = answered;
       asked = end_asked-answer streams query right.0 end w right.1 right.3 right.2 outcome answered;
     }

@@ -4,9 +4,13 @@ use Rattle.ss_program.proofs.Common.{arith, common_steps, ap₂, inl, inr, ◌+�
 use Rattle.ss_program.proofs.Common.{cases_Bool, max_interval, min_interval, SplitFigures, greatest_count, least_count, sum_interval, same_name, Kind}
 use Rattle.ss_program.proofs.Common.{state-old, answer_of_kind, Happened, is_extreme, is_split, is_whole, may_have, may_reach, presence_of, split_figures}
 use Rattle.ss_program.proofs.Common.{split_windows, is_one_of, as_old, unfiltered_stream, unfiltered_window, Stream, state, stream_named, Count, Sum, Min, Max}
-use Rattle.ss_program.proofs.Common.{Has, Estimate, Presence, Absent, Present, Maybe, Point}
+use Rattle.ss_program.proofs.Common.{Mean, Has, Estimate, MeanEstimate, Presence, Absent, Present, Maybe, Point}
 use Rattle.ss_bounds.specs.Guess.{count_guess, sum_guess}
 use Rattle.ss_bounds.specs.Either.{greatest_in, least_in}
+use Rattle.ss_bounds.specs.MeanGuess.{mean_guess}
+use Rattle.ss_bounds.specs.Means.{mean_interval}
+use Rattle.ss_bounds.specs.declared.fraction.Fraction.{Fraction}
+use Rattle.ss_model.specs.Interval.{known_values}
 use Rattle.ss_bounds.specs.Truth.{asked, total}
 use Rattle.ss_model.specs.declared.types.Window.{Window}
 use Rattle.ss_summary.proofs.FilterLemmas.{has-full}
@@ -63,6 +67,16 @@ counts-from k from to (w ∷ ws) = elim (cases_Bool (is_whole from to w)) [
   | inr gone ↦ rw gone (counts-from k from to ws)
 ]
 
+-- what is made of the sum and the count of what is known and of the split windows, as a mean is
+known-old : {Y : Type 0} (make : Fraction → List SplitFigures → Y) (free : ℕ → Bool) (from to : ℕ) (ws : List Window) (marked : List Point) →
+    make (known_values from to (map unfiltered_window ws) marked) (split_windows free from to (map unfiltered_window ws))
+    ≡ make (known_values from to ws marked) (split_windows free from to ws)
+known-old make free from to ws marked =
+    let known = λ (sums : List ℤ) (n : ℕ).
+    (let values : Fraction = record { over = total sums +ℤ total (asked from to marked); under = n + length (asked from to marked) } in values) in
+    ap₂ make (ap₂ known (map-kept (λ (w : Window). w.summary.sum) (is_whole from to) ws (λ w. refl) (λ w. refl)) (counts-from 0 from to ws))
+    (splits-old free from to ws)
+
 -- an answer that isn't whether a value is there
 pub answer_of_kind-old : (kind : Kind) (free : ℕ → Bool) (from to : ℕ) (ws : List Window) (marked : List Point) →
     ((v : ℤ) → kind ≡ kinds.Has v → ⊥) → answer_of_kind kind free from to (map unfiltered_window ws) marked ≡ answer_of_kind kind free from to ws marked
@@ -80,6 +94,8 @@ answer_of_kind-old kinds.Min free from to ws marked other =
 answer_of_kind-old kinds.Max free from to ws marked other =
     ap₂ (λ (maxs : List ℤ) (splits : List SplitFigures). Max (max_interval (greatest_in (maxs ++ asked from to marked)) splits))
     (map-kept (λ (w : Window). w.summary.max) (is_whole from to) ws (λ w. refl) (λ w. refl)) (splits-old free from to ws)
+answer_of_kind-old kinds.Mean free from to ws marked other =
+    known-old (λ (known : Fraction) (splits : List SplitFigures). Mean (mean_interval known splits)) free from to ws marked
 answer_of_kind-old (kinds.Has v) free from to ws marked other = absurd (other v refl)
 answer_of_kind-old kinds.CountGuess free from to ws marked other =
     ap₂ (λ (n : ℕ) (splits : List SplitFigures). Estimate (pos ((n + length (asked from to marked)) + sum_by least_count splits))
@@ -91,6 +107,8 @@ answer_of_kind-old kinds.SumGuess free from to ws marked other =
     (sum_guess (total sums +ℤ total (asked from to marked)) splits)
     ((total sums +ℤ total (asked from to marked)) +ℤ total (map (λ (s : ℤ × ℤ). s.1) (map sum_interval splits))))
     (map-kept (λ (w : Window). w.summary.sum) (is_whole from to) ws (λ w. refl) (λ w. refl)) (splits-old free from to ws)
+answer_of_kind-old kinds.MeanGuess free from to ws marked other =
+    known-old (λ (known : Fraction) (splits : List SplitFigures). MeanEstimate (mean_guess known splits)) free from to ws marked
 
 -- ---- whether a value is there
 
@@ -141,8 +159,10 @@ kind-has kinds.Count v known free from to ws marked asked is = cc
 kind-has kinds.Sum v known free from to ws marked asked is = cc
 kind-has kinds.Min v known free from to ws marked asked is = cc
 kind-has kinds.Max v known free from to ws marked asked is = cc
+kind-has kinds.Mean v known free from to ws marked asked is = cc
 kind-has kinds.CountGuess v known free from to ws marked asked is = cc
 kind-has kinds.SumGuess v known free from to ws marked asked is = cc
+kind-has kinds.MeanGuess v known free from to ws marked asked is = cc
 kind-has (kinds.Has other) v known free from to ws marked asked is =
     let told : presence_of other free from to (map unfiltered_window ws) marked ≡ known = cc in
     elim (presence-old other free from to ws marked) [

@@ -5,3 +5,4 @@ pub mod Needed
 pub mod Alike
 pub mod Blamed
 pub mod Short
+pub mod Guesses

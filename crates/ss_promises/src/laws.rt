@@ -1,5 +1,5 @@
 // Laws of what lines bring, each the contract of a function that does nothing.
-ghost use Rattle.std.specs.Prelude.{◌≡◌, ◌++◌, ◌&&◌, [], ◌∷◌, ℕ, ℤ, ◌≤ℤ◌, true, List, filter, flat_map, length, map, nat_le, Some, None, Ok};
+ghost use Rattle.std.specs.Prelude.{◌≡◌, ◌++◌, ◌&&◌, [], ◌∷◌, ℕ, ℤ, true, List, filter, flat_map, length, map, nat_le, Some, None, Ok};
 ghost use Rattle.ss_catalog.specs.Queries.{is_guess};
 ghost use Rattle.ss_catalog.specs.Series.{row_count, row_start, rows_of};
 ghost use Rattle.ss_catalog.specs.declared.event.Event.TheVariants.{Create, Drop};
@@ -27,7 +27,7 @@ ghost use Rattle.ss_model.specs.Truth.{true_presence};
 ghost use Rattle.ss_model.specs.Windows.{time_of_last};
 ghost use Rattle.ss_model.specs.declared.newest.Newest.{Newest};
 ghost use Rattle.ss_model.specs.declared.outcome.Outcome.{Outcome};
-ghost use Rattle.ss_model.specs.declared.outcome.Outcome.TheVariants.{Estimate, Has};
+ghost use Rattle.ss_model.specs.declared.outcome.Outcome.TheVariants.{Has};
 ghost use Rattle.ss_model.specs.declared.outcome.Presence.{Presence};
 ghost use Rattle.ss_report.specs.Text.{reply_line};
 ghost use Rattle.ss_report.specs.declared.reply.Reply.TheVariants.{Answered, Last as LastLine, Refused, SeriesHead, Row, ValuesHead};
@@ -36,6 +36,7 @@ ghost use Rattle.ss_program.specs.Certifying.{IsSharp};
 ghost use Rattle.ss_program.specs.Line.{History, value_rows};
 ghost use Rattle.ss_program.specs.Session.{NoneCreates, plain_after, replies, text_of};
 ghost use Rattle.ss_program.specs.Talk.{plain_talk};
+ghost use Rattle.ss_promises.specs.Guesses.{GuessLiesBetween};
 
 /// After a history the lines of a session leave one: each event that they add can be said, and isn't refused.
 pub fn sessions_leave_a_history()
@@ -82,11 +83,11 @@ pub fn guesses_lie_between_the_ends()
     ensures { (history : History) (ls before after : List (List ℕ)) (line : List ℕ) (query : Query) → IsHistory history →
         ls ≡ before ++ line ∷ after → meaning line ≡ Ok (Some (Ask query)) → is_guess query.kind ≡ true →
         refuses_query (state (plain_after history before)) query ≡ None →
-        (lo : ℤ) × (guess : ℤ) × (hi : ℤ)
-        × (replies history ls ≡ replies history before ++ Answered (Estimate lo guess hi) ∷ replies (plain_after history before) after)
-        × (lo ≤ℤ guess) × (guess ≤ℤ hi)
+        (guessed : Outcome)
+        × (replies history ls ≡ replies history before ++ Answered guessed ∷ replies (plain_after history before) after)
+        × GuessLiesBetween guessed
         × (answer : Outcome) × (outcome_of (state (plain_after history before)) (interval_query query) ≡ Some answer)
-        × HasEnds (Estimate lo guess hi) answer }
+        × HasEnds guessed answer }
 {}
 
 /// Each line of a session that asks a series which isn't refused then has its head and its rows as replies, in their place

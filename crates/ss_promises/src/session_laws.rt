@@ -1,5 +1,5 @@
 // Laws of conversations, whichever form the input has, each the contract of a function that does nothing.
-ghost use Rattle.std.specs.Prelude.{◌≡◌, ◌++◌, ◌&&◌, [], ◌∷◌, ℕ, ℤ, ◌≤ℤ◌, true, List, filter, length, map, nat_le, take, drop, Option, Some, None, Bool};
+ghost use Rattle.std.specs.Prelude.{◌≡◌, ◌++◌, ◌&&◌, [], ◌∷◌, ℕ, ℤ, true, List, filter, length, map, nat_le, take, drop, Option, Some, None, Bool};
 ghost use Rattle.ss_arguments.specs.declared.mode.Form.TheVariants.{Sessions};
 ghost use Rattle.ss_catalog.specs.Queries.{is_guess};
 ghost use Rattle.ss_catalog.specs.Series.{row_count, row_start, rows_of};
@@ -25,7 +25,7 @@ ghost use Rattle.ss_model.specs.Truth.{true_presence};
 ghost use Rattle.ss_model.specs.Windows.{time_of_last};
 ghost use Rattle.ss_model.specs.declared.newest.Newest.{Newest};
 ghost use Rattle.ss_model.specs.declared.outcome.Outcome.{Outcome};
-ghost use Rattle.ss_model.specs.declared.outcome.Outcome.TheVariants.{Estimate, Has};
+ghost use Rattle.ss_model.specs.declared.outcome.Outcome.TheVariants.{Has};
 ghost use Rattle.ss_model.specs.declared.outcome.Presence.{Presence};
 ghost use Rattle.ss_report.specs.declared.reply.Reply.TheVariants.{Answered, SeriesHead, Row, Cursor, Rows};
 ghost use Rattle.ss_report.specs.declared.reply.Reply.TheVariants.{Last as LastLine, ValuesHead};
@@ -37,6 +37,7 @@ ghost use Rattle.ss_program.specs.Certifying.{IsSharp};
 ghost use Rattle.ss_program.specs.Line.{History, command_in, only_replies, text_said, value_rows, window_rows};
 ghost use Rattle.ss_program.specs.Session.{after_line, after_lines, text_of};
 ghost use Rattle.ss_program.specs.Talk.{Talk, begun, is_framed, turn_brought, turn_of};
+ghost use Rattle.ss_promises.specs.Guesses.{GuessLiesBetween};
 
 /// What a cursor shows are the windows of its stream as they were when it was opened. A session opens one, after any lines, and
 /// isn't refused: the reply says how many windows the stream has after the history so far. Whatever lines of any
@@ -92,10 +93,9 @@ pub fn conversations_hold_the_truth()
         (marked_of talk.history query.name)) }
     ensures estimate { (talk : Talk) (speaker : Option ℕ) (line : List ℕ) (query : Query) → IsHistory talk.history →
         IsAsked talk.form speaker (Ask query) line → is_guess query.kind ≡ true → refuses_query (state talk.history) query ≡ None →
-        (lo : ℤ) × (guess : ℤ) × (hi : ℤ)
-        × (turn_of talk line ≡ turn_brought speaker talk (only_replies (Answered (Estimate lo guess hi) ∷ [])))
-        × (lo ≤ℤ guess) × (guess ≤ℤ hi)
-        × (answer : Outcome) × (outcome_of (state talk.history) (interval_query query) ≡ Some answer) × HasEnds (Estimate lo guess hi) answer }
+        (guessed : Outcome) × (turn_of talk line ≡ turn_brought speaker talk (only_replies (Answered guessed ∷ [])))
+        × GuessLiesBetween guessed
+        × (answer : Outcome) × (outcome_of (state talk.history) (interval_query query) ≡ Some answer) × HasEnds guessed answer }
     ensures series { (talk : Talk) (speaker : Option ℕ) (line : List ℕ) (series : Series) → IsHistory talk.history →
         IsAsked talk.form speaker (AskRows series) line → refuses_series (state talk.history) series ≡ None →
         (answers : ℕ → Outcome)

@@ -7,7 +7,10 @@ use Rattle.std.proofs.lemmas.Int.{ints}
 use Rattle.std.proofs.lemmas.List.Sums.{sum_by-cons}
 use Rattle.ss_bounds.specs.Either.{either, greatest_in, least_in}
 use Rattle.ss_bounds.specs.Extremes.{listed, max_interval, min_interval}
+use Rattle.ss_bounds.specs.declared.fraction.Fraction.{Fraction}
 use Rattle.ss_bounds.specs.Guess.{count_guess, sum_guess}
+use Rattle.ss_bounds.specs.MeanGuess.{mean_guess}
+use Rattle.ss_bounds.specs.Means.{mean_interval}
 use Rattle.ss_bounds.specs.Split.{SplitFigures, greatest_count, least_count, sum_interval}
 use Rattle.ss_bounds.specs.Truth.{asked, total}
 use Rattle.ss_bounds.proofs.ChoiceLemmas.{IsChoice-max, IsChoice-min, choice_in-append}
@@ -23,9 +26,9 @@ use Rattle.ss_model.specs.Interval as intervals
 use Rattle.ss_model.specs.Marks.{marked_values}
 use Rattle.ss_model.specs.Standing.{IsStream}
 use Rattle.ss_model.specs.State.{Stream}
-use Rattle.ss_model.specs.declared.outcome.Outcome.TheVariants.{Count, Estimate, Has, Max, Min, Sum}
+use Rattle.ss_model.specs.declared.outcome.Outcome.TheVariants.{Count, Estimate, Has, Max, Mean, MeanEstimate, Min, Sum}
 use Rattle.ss_model.specs.declared.types.Window.{Window}
-use Rattle.ss_query.specs.Asked.{counts_of, counts_seen, cut_of, figures_of, seen_count, seen_max, seen_min, seen_sum, outcome_seen, seen_of, sums_of}
+use Rattle.ss_query.specs.Asked.{counts_of, counts_seen, cut_of, figures_of, seen_count, seen_max, seen_min, seen_sum, outcome_seen, seen_of, sums_of, values_seen}
 use Rattle.ss_query.specs.Asked.{sums_seen}
 use Rattle.ss_query.specs.declared.asking.Seen.{Seen}
 use Rattle.ss_query.specs.declared.cut.Cut.{Cut}
@@ -94,6 +97,9 @@ module _ (landmarks : List Landmark) (kind : Kind) (from to : ℕ) (seen : Seen)
   pub seen_sum-seen : seen_sum seen.whole seen.marked ≡ intervals.known_sum from to ws (marked_values landmarks)
   seen_sum-seen = ap₂ (λ p q. p +ℤ q) is.known.sum (ap (λ (t : Tally). t.sum) is.marked ∙ total-asked landmarks from to)
 
+  values : values_seen seen ≡ intervals.known_values from to ws (marked_values landmarks)
+  values = ap₂ (λ (sum : ℤ) (count : ℕ). record { over = sum; under = count }) seen_sum-seen seen_count-seen
+
   splits : figures_in (listed seen.left seen.right) ≡ split_windows (is_free landmarks) from to ws
   splits = ap (λ l. figures_in l) is.cuts ∙ figures-cuts landmarks from to (filter (is_split from to) ws)
 
@@ -128,6 +134,8 @@ outcome-seen landmarks kinds.Min from to seen ws is =
 outcome-seen landmarks kinds.Max from to seen ws is =
     ap Max (ap₂ max_interval (greatest-seen landmarks kinds.Max from to seen ws is)
     (figures landmarks kinds.Max from to seen ws is))
+outcome-seen landmarks kinds.Mean from to seen ws is =
+    ap Mean (ap₂ mean_interval (values landmarks kinds.Mean from to seen ws is) (figures landmarks kinds.Mean from to seen ws is))
 outcome-seen landmarks (kinds.Has v) from to seen ws is = ap Has is.presence
 outcome-seen landmarks kinds.CountGuess from to seen ws is =
     ap₂ (λ (c : ℕ × ℕ) (guess : ℤ). Estimate (pos c.0) guess (pos c.1)) (counts landmarks kinds.CountGuess from to seen ws is)
@@ -135,6 +143,8 @@ outcome-seen landmarks kinds.CountGuess from to seen ws is =
 outcome-seen landmarks kinds.SumGuess from to seen ws is =
     ap₂ (λ (s : ℤ × ℤ) (guess : ℤ). Estimate s.0 guess s.1) (sums landmarks kinds.SumGuess from to seen ws is)
     (ap₂ sum_guess (seen_sum-seen landmarks kinds.SumGuess from to seen ws is) (figures landmarks kinds.SumGuess from to seen ws is))
+outcome-seen landmarks kinds.MeanGuess from to seen ws is =
+    ap MeanEstimate (ap₂ mean_guess (values landmarks kinds.MeanGuess from to seen ws is) (figures landmarks kinds.MeanGuess from to seen ws is))
 
 -- so is what is answered from what is known of a stream
 pub outcome_seen-seen_of : (query : Query) (s : Stream) → IsStream s →

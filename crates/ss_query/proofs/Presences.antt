@@ -26,9 +26,11 @@ presence_of_kind landmarks kinds.Count from to ws = Absent
 presence_of_kind landmarks kinds.Sum from to ws = Absent
 presence_of_kind landmarks kinds.Min from to ws = Absent
 presence_of_kind landmarks kinds.Max from to ws = Absent
+presence_of_kind landmarks kinds.Mean from to ws = Absent
 presence_of_kind landmarks (kinds.Has v) from to ws = presence_of v (is_free landmarks) from to ws (marked_values landmarks)
 presence_of_kind landmarks kinds.CountGuess from to ws = Absent
 presence_of_kind landmarks kinds.SumGuess from to ws = Absent
+presence_of_kind landmarks kinds.MeanGuess from to ws = Absent
 
 -- what two tests tell of a value: that it is there, and that it may be
 abbrev told : Bool → Bool → Presence
@@ -59,11 +61,13 @@ presence-none landmarks kinds.Count from to = refl
 presence-none landmarks kinds.Sum from to = refl
 presence-none landmarks kinds.Min from to = refl
 presence-none landmarks kinds.Max from to = refl
+presence-none landmarks kinds.Mean from to = refl
 presence-none landmarks (kinds.Has v) from to =
     let marked = is_one_of v (asked from to (marked_values landmarks)) in
     ap (λ (b : Bool). if b then Present else Absent) (is_among-asked landmarks from to v ∙ sym (or-false marked))
 presence-none landmarks kinds.CountGuess from to = refl
 presence-none landmarks kinds.SumGuess from to = refl
+presence-none landmarks kinds.MeanGuess from to = refl
 
 module _ (landmarks : List Landmark) (from to : ℕ) (v : ℤ) (ws : List Window) (w : Window) where
   abbrev sure : Window → Bool
@@ -103,9 +107,11 @@ presence-more landmarks kinds.Count from to ws w = refl
 presence-more landmarks kinds.Sum from to ws w = refl
 presence-more landmarks kinds.Min from to ws w = refl
 presence-more landmarks kinds.Max from to ws w = refl
+presence-more landmarks kinds.Mean from to ws w = refl
 presence-more landmarks (kinds.Has v) from to ws w = value-more landmarks from to v ws w
 presence-more landmarks kinds.CountGuess from to ws w = refl
 presence-more landmarks kinds.SumGuess from to ws w = refl
+presence-more landmarks kinds.MeanGuess from to ws w = refl
 
 pub presence-skip : (landmarks : List Landmark) (kind : Kind) (from to : ℕ) (ws : List Window) (w : Window) → is_whole from to w ≡ false →
     is_apart from to w ≡ true → presence_of_kind landmarks kind from to (ws ++ w ∷ []) ≡ presence_of_kind landmarks kind from to ws
@@ -113,6 +119,8 @@ presence-skip landmarks kinds.Count from to ws w not_whole apart = refl
 presence-skip landmarks kinds.Sum from to ws w not_whole apart = refl
 presence-skip landmarks kinds.Min from to ws w not_whole apart = refl
 presence-skip landmarks kinds.Max from to ws w not_whole apart = refl
+presence-skip landmarks kinds.Mean from to ws w not_whole apart = refl
 presence-skip landmarks (kinds.Has v) from to ws w not_whole apart = value-skip landmarks from to v ws w not_whole apart
 presence-skip landmarks kinds.CountGuess from to ws w not_whole apart = refl
 presence-skip landmarks kinds.SumGuess from to ws w not_whole apart = refl
+presence-skip landmarks kinds.MeanGuess from to ws w not_whole apart = refl

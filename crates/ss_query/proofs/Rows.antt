@@ -4,6 +4,12 @@ use Rattle.std.specs.Prelude.{◌+◌, ◌-◌, ◌^◌, IfSome, ℤ, unsigned_a
 use Rattle.std.specs.Option.{option_map_or}
 use Rattle.ss_outside.specs.Disk.{Told}
 use Rattle.ss_outside.specs.Verdict.{changed, failed, fine}
+use Rattle.ss_bounds.specs.declared.fraction.Fraction.{Fraction}
+use Rattle.ss_bounds.specs.declared.mean.Mean.TheVariants as means
+use Rattle.ss_bounds.specs.declared.mean.MeanGuess.TheVariants as guesses
+use Rattle.ss_bounds.specs.Fractions.{lowest}
+use Rattle.ss_bounds.specs.MeanGuess.{mean_guess}
+use Rattle.ss_bounds.specs.Means.{mean_interval}
 use Rattle.ss_bounds.specs.Split.{IsSplit}
 use Rattle.ss_catalog.specs.Params.{exp as Exp}
 use Rattle.ss_catalog.specs.declared.query.Kind.{Kind}
@@ -16,7 +22,7 @@ use Rattle.ss_line.specs.declared.entry.At.{At}
 use Rattle.ss_line.specs.declared.entry.Entry.{Entry}
 use Rattle.ss_model.specs.State.{Stream}
 use Rattle.ss_model.specs.declared.outcome.Outcome.{Outcome}
-use Rattle.ss_model.specs.declared.outcome.Outcome.TheVariants.{Count, Has, Sum}
+use Rattle.ss_model.specs.declared.outcome.Outcome.TheVariants.{Count, Has, Mean, MeanEstimate, Sum}
 use Rattle.ss_model.specs.declared.outcome.Presence.TheVariants.{Absent, Maybe, Present}
 use Rattle.ss_model.specs.declared.types.Window.{Window}
 use Rattle.ss_records.specs.Kept.{AreKept, RecordsState}
@@ -181,6 +187,16 @@ split-count : outcome_seen kinds.Count (known kinds.Count 20) ≡ Count 3 4
 unfolding known window values
 split-count = refl
 
+-- the mean of 21 over 5, of 12 over 2 beside the split window, and the likeliest, 17 over 4
+fraction : ℤ → ℕ → Fraction
+fraction over under = record { over = over; under = under }
+
+means-seen : outcome_seen kinds.Mean (known kinds.Mean 10) ∷ outcome_seen kinds.Mean (known kinds.Mean 20) ∷ outcome_seen kinds.MeanGuess (known kinds.MeanGuess 20) ∷ []
+    ≡ Mean (means.Sure (fraction (pos 21) 5) (fraction (pos 21) 5)) ∷ Mean (means.Sure (fraction (pos 17) 4) (fraction (pos 16) 3))
+    ∷ MeanEstimate (guesses.Sure (fraction (pos 17) 4) (fraction (pos 17) 4) (fraction (pos 16) 3)) ∷ []
+unfolding known window values fraction mean_guess mean_interval lowest
+means-seen = refl
+
 -- such a window is cut: its positions, how many of its values there are, and the ends and times that lie in the range and outside it
 cut : Cut
 cut = cut_of [] 20 40 (window 4 3)
@@ -298,8 +314,8 @@ unfolding presence one_stream window later_window bit_of filter_of has union
 present-first = refl
 
 -- where nothing is asked for, nothing is there
-nothing-asked : map (λ (kind : Kind). (seen_of kind 0 70 one_stream).presence) (kinds.Count ∷ kinds.Sum ∷ kinds.Min ∷ kinds.Max ∷ [])
-    ≡ Absent ∷ Absent ∷ Absent ∷ Absent ∷ []
+nothing-asked : map (λ (kind : Kind). (seen_of kind 0 70 one_stream).presence) (kinds.Count ∷ kinds.Sum ∷ kinds.Min ∷ kinds.Max ∷ kinds.Mean ∷ [])
+    ≡ Absent ∷ Absent ∷ Absent ∷ Absent ∷ Absent ∷ []
 unfolding one_stream window later_window
 nothing-asked = refl
 

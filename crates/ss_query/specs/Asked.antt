@@ -6,6 +6,9 @@ use Rattle.std.specs.Option.{option_map, option_map_or}
 use Rattle.ss_bounds.specs.Either.{greater, lesser}
 use Rattle.ss_bounds.specs.Extremes.{listed, max_interval, min_interval}
 use Rattle.ss_bounds.specs.Guess.{count_guess, sum_guess}
+use Rattle.ss_bounds.specs.declared.fraction.Fraction.{Fraction}
+use Rattle.ss_bounds.specs.MeanGuess.{mean_guess}
+use Rattle.ss_bounds.specs.Means.{mean_interval}
 use Rattle.ss_bounds.specs.Split.{IsSplit, SplitFigures, count_interval, sum_interval}
 use Rattle.ss_landmarks.specs.Free.{is_free}
 use Rattle.ss_landmarks.specs.Landmark.{Landmark, LandmarkValue}
@@ -17,7 +20,7 @@ use Rattle.ss_model.specs.Closed.{last_position}
 use Rattle.ss_model.specs.Interval.{is_apart, is_extreme, is_split, is_whole, may_have, may_reach, split_figures}
 use Rattle.ss_model.specs.State.{Stream}
 use Rattle.ss_model.specs.declared.outcome.Outcome.{Outcome}
-use Rattle.ss_model.specs.declared.outcome.Outcome.TheVariants.{Count, Sum, Min, Max, Has, Estimate}
+use Rattle.ss_model.specs.declared.outcome.Outcome.TheVariants.{Count, Sum, Min, Max, Mean, Has, Estimate, MeanEstimate}
 use Rattle.ss_model.specs.declared.outcome.Presence.{Presence}
 use Rattle.ss_model.specs.declared.outcome.Presence.TheVariants.{Absent, Present, Maybe}
 use Rattle.ss_model.specs.declared.types.Window.{Window}
@@ -33,9 +36,11 @@ presence_of_marks kinds.Count values = Absent
 presence_of_marks kinds.Sum values = Absent
 presence_of_marks kinds.Min values = Absent
 presence_of_marks kinds.Max values = Absent
+presence_of_marks kinds.Mean values = Absent
 presence_of_marks (kinds.Has v) values = if is_among v values then Present else Absent
 presence_of_marks kinds.CountGuess values = Absent
 presence_of_marks kinds.SumGuess values = Absent
+presence_of_marks kinds.MeanGuess values = Absent
 
 -- before any window was read: what these values add up to, and whether the value that is asked for is one of them
 abbrev pub marks_seen : Kind → List LandmarkValue → Seen
@@ -89,9 +94,11 @@ presence_with landmarks kinds.Count from to known w = known
 presence_with landmarks kinds.Sum from to known w = known
 presence_with landmarks kinds.Min from to known w = known
 presence_with landmarks kinds.Max from to known w = known
+presence_with landmarks kinds.Mean from to known w = known
 presence_with landmarks (kinds.Has v) from to known w = stronger known (presence_in landmarks from to v w)
 presence_with landmarks kinds.CountGuess from to known w = known
 presence_with landmarks kinds.SumGuess from to known w = known
+presence_with landmarks kinds.MeanGuess from to known w = known
 
 -- a window may come next: it has no more values than a stream can have besides those so far, and its times are behind theirs
 abbrev pub Follows : Seen → Window → Type 0
@@ -153,6 +160,9 @@ seen_count whole marked = option_map_or (λ (f : Figures). f.count) whole 0 + ma
 abbrev pub seen_sum : Option Figures → Tally → ℤ
 seen_sum whole marked = option_map_or (λ (f : Figures). f.sum) whole (pos 0) +ℤ marked.sum
 
+abbrev pub values_seen : Seen → Fraction
+values_seen seen = record { over = seen_sum seen.whole seen.marked; under = seen_count seen.whole seen.marked }
+
 abbrev pub seen_min : Option Figures → Tally → Option ℤ
 seen_min whole marked = lesser (option_map (λ (f : Figures). f.min) whole) marked.least
 
@@ -181,6 +191,7 @@ outcome_seen kinds.Count seen = let counts = counts_seen seen in Count counts.0 
 outcome_seen kinds.Sum seen = let sums = sums_seen seen in Sum sums.0 sums.1
 outcome_seen kinds.Min seen = Min (min_interval (seen_min seen.whole seen.marked) (listed (figures_of seen.left) (figures_of seen.right)))
 outcome_seen kinds.Max seen = Max (max_interval (seen_max seen.whole seen.marked) (listed (figures_of seen.left) (figures_of seen.right)))
+outcome_seen kinds.Mean seen = Mean (mean_interval (values_seen seen) (listed (figures_of seen.left) (figures_of seen.right)))
 outcome_seen (kinds.Has v) seen = Has seen.presence
 outcome_seen kinds.CountGuess seen =
     let counts = counts_seen seen in
@@ -190,3 +201,4 @@ outcome_seen kinds.SumGuess seen =
     let sums = sums_seen seen in
     let guess = sum_guess (seen_sum seen.whole seen.marked) (listed (figures_of seen.left) (figures_of seen.right)) in
     Estimate sums.0 guess sums.1
+outcome_seen kinds.MeanGuess seen = MeanEstimate (mean_guess (values_seen seen) (listed (figures_of seen.left) (figures_of seen.right)))

@@ -12,6 +12,7 @@ ghost use Rattle.ss_base.specs.Near.{IsNear};
 ghost use Rattle.ss_query.specs.Asked.{seen_sum, left_with, marks_seen, outcome_seen, right_with, seen_with, sums_of, sums_seen, whole_with};
 
 use crate::Cut;
+use crate::means::{mean_guessed, mean_seen};
 use crate::presence::{presence_of_marks, presence_with};
 use ss_base::{LAST_TIME, MOST_VALUES, Steps};
 use ss_bounds::{
@@ -270,7 +271,7 @@ pub fn with_window<S: Ledger>(
 }
 
 // How many values are known: those of the windows that lie whole in the range, and those of landmarks.
-fn known_count(whole: Option<Summary>, marked: Tally) -> u64
+pub fn known_count(whole: Option<Summary>, marked: Tally) -> u64
     requires { IsFewMarked marked }
     ensures value { result ≡ seen_count whole marked }
     ensures few { result ≤ 2 * MOST_VALUES }
@@ -282,7 +283,7 @@ fn known_count(whole: Option<Summary>, marked: Tally) -> u64
 }
 
 // What the sum of these is.
-fn known_sum(whole: Option<Summary>, marked: Tally) -> i128
+pub fn known_sum(whole: Option<Summary>, marked: Tally) -> i128
     requires { IsFewMarked marked }
     ensures value { result ≡ seen_sum whole marked }
     ensures near { IsNear result }
@@ -321,7 +322,7 @@ fn sums_of(cut: Option<Cut>) -> (i128, i128)
 }
 
 // Its figures, where there is one.
-fn figures_of(cut: Option<Cut>) -> Option<Split>
+pub fn figures_of(cut: Option<Cut>) -> Option<Split>
     ensures { result ≡ figures_of cut }
 {
     match cut {
@@ -436,8 +437,10 @@ pub fn outcome_seen(seen: Seen, kind: Kind) -> Outcome
         Kind::Sum => sum_seen(seen),
         Kind::Min => least_seen(seen),
         Kind::Max => greatest_seen(seen),
+        Kind::Mean => mean_seen(seen),
         Kind::Has { .. } => Outcome::Has(seen.presence),
         Kind::CountGuess => count_guessed(seen),
         Kind::SumGuess => sum_guessed(seen),
+        Kind::MeanGuess => mean_guessed(seen),
     }
 }

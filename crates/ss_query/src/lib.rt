@@ -3,6 +3,7 @@
 
 mod asking;
 mod cut;
+mod means;
 mod presence;
 mod walking;
 

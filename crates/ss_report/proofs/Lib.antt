@@ -1,2 +1,3 @@
 pub mod FrameLemmas
 mod Rows
+mod MeanRows

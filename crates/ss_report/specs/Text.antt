@@ -12,13 +12,14 @@ use Rattle.ss_frames.specs.Frame.{FrameState, frame_spelled}
 use Rattle.ss_model.specs.declared.newest.Newest.{Newest}
 use Rattle.ss_model.specs.declared.newest.Newest.TheVariants as newest
 use Rattle.ss_model.specs.declared.outcome.Outcome.{Outcome}
-use Rattle.ss_model.specs.declared.outcome.Outcome.TheVariants.{Count, Sum, Min, Max, Has, Estimate}
+use Rattle.ss_model.specs.declared.outcome.Outcome.TheVariants.{Count, Sum, Min, Max, Mean, Has, Estimate, MeanEstimate}
 use Rattle.ss_model.specs.declared.outcome.Presence.{Presence}
 use Rattle.ss_model.specs.declared.outcome.Presence.TheVariants as presences
 use Rattle.ss_model.specs.declared.types.Run.{Run}
+use Rattle.ss_report.specs.MeanText.{mean_end_word, mean_guess_words, mean_words}
 use Rattle.ss_report.specs.declared.reply.Reply.{Reply}
 use Rattle.ss_report.specs.declared.reply.Reply.TheVariants.{Done, Answered, Refused, SeriesHead, Row, WindowsHead, Window, ListHead, Stream}
-use Rattle.ss_report.specs.declared.reply.Reply.TheVariants.{CertifyHead, Side, Last, ValuesHead, Value, Cursor, Rows, Closed, Old, Gap, Framed}
+use Rattle.ss_report.specs.declared.reply.Reply.TheVariants.{CertifyHead, CertifyMeanHead, Side, Last, ValuesHead, Value, Cursor, Rows, Closed, Old, Gap, Framed}
 
 -- a line of words with one space between them, with its line end
 abbrev pub spaced_line : List ℕ → List (List ℕ) → List ℕ
@@ -42,8 +43,10 @@ answer_kind (Count lo hi) = codes "count"
 answer_kind (Sum lo hi) = codes "sum"
 answer_kind (Min extreme) = codes "min"
 answer_kind (Max extreme) = codes "max"
+answer_kind (Mean known) = codes "mean"
 answer_kind (Has known) = codes "has"
 answer_kind (Estimate lo guess hi) = codes "estimate"
+answer_kind (MeanEstimate known) = codes "estimate"
 
 -- the words of an answer behind that one
 abbrev pub answer_words : Outcome → List (List ℕ)
@@ -51,8 +54,10 @@ answer_words (Count lo hi) = decimal lo ∷ decimal hi ∷ []
 answer_words (Sum lo hi) = signed_decimal lo ∷ signed_decimal hi ∷ []
 answer_words (Min extreme) = extreme_words extreme
 answer_words (Max extreme) = extreme_words extreme
+answer_words (Mean known) = mean_words known
 answer_words (Has known) = presence_word known ∷ []
 answer_words (Estimate lo guess hi) = signed_decimal lo ∷ signed_decimal guess ∷ signed_decimal hi ∷ []
+answer_words (MeanEstimate known) = mean_guess_words known
 
 -- a run as a word: its value, and how many of it
 abbrev pub run_word : Run → List ℕ
@@ -88,6 +93,8 @@ reply_line (ListHead count) = spaced_line (codes "list") (decimal count ∷ [])
 reply_line (Stream row) =
     spaced_line row.name (target_words row.params ++ decimal row.n ∷ decimal row.k ∷ decimal row.landmarks ∷ decimal row.values ∷ [])
 reply_line (CertifyHead answer base count) = spaced_line (codes "certify") (signed_decimal answer ∷ signed_decimal base ∷ decimal count ∷ [])
+reply_line (CertifyMeanHead answer known count) =
+    spaced_line (codes "certify") (mean_end_word answer ∷ signed_decimal known.over ∷ decimal known.under ∷ decimal count ∷ [])
 reply_line (Side side) =
     spaced_line (if side.inner then codes "inside" else codes "outside") (decimal side.first ∷ decimal side.last ∷ decimal side.values ∷ run_words side.runs)
 reply_line (Last newest) = spaced_line (codes "last") (newest_words newest)

@@ -1,6 +1,8 @@
 //! The report: what is replied to a line, and the text of a reply.
 #![tactic(auto)]
 
+mod certificates;
+mod means;
 mod reply;
 mod text;
 

@@ -1,4 +1,5 @@
 // What is replied to a line.
+use ss_bounds::Fraction;
 use ss_catalog::{Kind, Refusal};
 use ss_frames::Frame;
 use ss_model::{Ack, Newest, Outcome, Placed, Run, StreamRow};
@@ -46,6 +47,13 @@ pub enum Reply {
     CertifyHead {
         answer: i128,
         base: i128,
+        count: u32,
+    },
+    /// The end of a mean that is certified, if there is a mean, the sum and the count of what is in the range for sure, and how many
+    /// windows it splits. Two lines of each follow.
+    CertifyMeanHead {
+        answer: Option<Fraction>,
+        known: Fraction,
         count: u32,
     },
     /// Values that a split window may have had.

@@ -1,14 +1,15 @@
 // The text of a reply.
-ghost use Rattle.std.specs.Prelude.{◌≡◌, ◌+◌, ◌≤◌, ◌<◌, [], ◌∷◌, length, IfSome};
+ghost use Rattle.std.specs.Prelude.{◌≡◌, ◌+◌, ◌≤◌, ◌<◌, [], length, IfSome};
 ghost use Rattle.std.specs.Fmt.{decimal};
 ghost use Rattle.ss_command.specs.Printed.{spaced, with_word};
 ghost use Rattle.ss_base.specs.declared.limits.TheConstants.{MOST_SESSIONS};
-ghost use Rattle.ss_report.specs.Text.{answer_kind, answer_words, extreme_words, frame_word, presence_word, reply_line, run_words, said_line};
+ghost use Rattle.ss_report.specs.Text.{answer_kind, answer_words, extreme_words, frame_word, presence_word, reply_line, said_line};
 ghost use Rattle.ss_report.specs.declared.reply.Reply.TheVariants.{Done, Answered, Refused, SeriesHead, Row, WindowsHead, Window, ListHead, Stream};
-ghost use Rattle.ss_report.specs.declared.reply.Reply.TheVariants.{CertifyHead, Last, ValuesHead, Value, Cursor, Rows, Gap, Framed};
-ghost use Rattle.ss_report.specs.declared.reply.Reply.TheVariants as replies;
+ghost use Rattle.ss_report.specs.declared.reply.Reply.TheVariants.{Last, ValuesHead, Value, Cursor, Rows, Gap, Framed};
 
-use crate::{Reply, Side};
+use crate::Reply;
+use crate::certificates::{certify_text, runs_text};
+use crate::means::{certify_mean_text, put_mean, put_mean_guess};
 use arrayvec::ArrayString;
 use ss_base::MOST_SESSIONS;
 use ss_bounds::Extreme;
@@ -16,7 +17,7 @@ use ss_catalog::{Kind, LONGEST_NAME, Name, Refusal};
 use ss_command::{put_number, put_sum, put_target, put_value};
 use ss_fields::print_u64;
 use ss_frames::{FRAME_SIZE, Frame, encode_frame};
-use ss_model::{Ack, Newest, Outcome, Placed, Presence, Run, StreamRow};
+use ss_model::{Ack, Newest, Outcome, Placed, Presence, StreamRow};
 
 // Writes a number into an empty text.
 fn begin_with_number(number: u64, out: &mut ArrayString<256>)
@@ -82,9 +83,9 @@ fn put_presence(presence: Presence, out: &mut ArrayString<256>)
 
 // Adds what an answer says.
 fn put_words(outcome: &Outcome, out: &mut ArrayString<256>)
-    requires { length out.old.bytes + 123 ≤ 256 }
+    requires { length out.old.bytes + 206 ≤ 256 }
     ensures bytes { out.new.bytes ≡ spaced out.old.bytes (answer_words outcome.now) }
-    ensures short { length out.new.bytes ≤ length out.old.bytes + 123 }
+    ensures short { length out.new.bytes ≤ length out.old.bytes + 197 }
 {
     match *outcome {
         Outcome::Count { lo, hi } => {
@@ -97,12 +98,14 @@ fn put_words(outcome: &Outcome, out: &mut ArrayString<256>)
         }
         Outcome::Min(extreme) => put_extreme(extreme, out),
         Outcome::Max(extreme) => put_extreme(extreme, out),
+        Outcome::Mean(mean) => put_mean(mean, out),
         Outcome::Has(presence) => put_presence(presence, out),
         Outcome::Estimate { lo, guess, hi } => {
             put_sum(lo, out);
             put_sum(guess, out);
             put_sum(hi, out);
         }
+        Outcome::MeanEstimate(mean) => put_mean_guess(mean, out),
     }
 }
 
@@ -115,8 +118,9 @@ fn kind_word(outcome: &Outcome) -> &'static str
         Outcome::Sum { .. } => "sum",
         Outcome::Min(_) => "min",
         Outcome::Max(_) => "max",
+        Outcome::Mean(_) => "mean",
         Outcome::Has(_) => "has",
-        Outcome::Estimate { .. } => "estimate",
+        Outcome::Estimate { .. } | Outcome::MeanEstimate(_) => "estimate",
     }
 }
 
@@ -207,56 +211,6 @@ fn stream_text(row: &StreamRow, out: &mut ArrayString<256>)
     put_number(u64::from(row.k), out);
     put_number(u64::from(row.landmarks), out);
     put_number(u64::from(row.values), out);
-    out.push_str("\n");
-}
-
-// Writes the line that stands above certificates into an empty text.
-fn certify_text(answer: i128, base: i128, count: u32, out: &mut ArrayString<256>)
-    requires { out.old.bytes ≡ [] }
-    ensures { out.new.bytes ≡ reply_line (CertifyHead answer base count) }
-{
-    out.push_str("certify");
-    put_sum(answer, out);
-    put_sum(base, out);
-    put_number(u64::from(count), out);
-    out.push_str("\n");
-}
-
-// Adds a run, if it has values.
-fn put_run(run: &Run, out: &mut ArrayString<256>)
-    requires { length out.old.bytes + 62 ≤ 256 }
-    ensures bytes { out.new.bytes ≡ spaced out.old.bytes (run_words (run.now ∷ [])) }
-    ensures short { length out.new.bytes ≤ length out.old.bytes + 42 }
-{
-    if run.times > 0 {
-        put_value(run.value, out);
-        out.push_str("*");
-        print_u64(run.times, out);
-    }
-}
-
-// Adds the runs that have values.
-fn put_runs(runs: &[Run; 3], out: &mut ArrayString<256>)
-    requires { length out.old.bytes + 146 ≤ 256 }
-    ensures bytes { out.new.bytes ≡ spaced out.old.bytes (run_words runs.now) }
-    ensures short { length out.new.bytes ≤ length out.old.bytes + 126 }
-{
-    let [first, second, third] = runs;
-    put_run(first, out);
-    put_run(second, out);
-    put_run(third, out);
-}
-
-// Writes the line of values inside or outside a range into an empty text.
-fn runs_text(side: &Side, out: &mut ArrayString<256>)
-    requires { out.old.bytes ≡ [] }
-    ensures { out.new.bytes ≡ reply_line (replies.Side side.now) }
-{
-    out.push_str(if side.inner { "inside" } else { "outside" });
-    put_number(side.first, out);
-    put_number(side.last, out);
-    put_number(side.values, out);
-    put_runs(&side.runs, out);
     out.push_str("\n");
 }
 
@@ -375,6 +329,11 @@ pub fn reply_text(reply: &Reply, out: &mut ArrayString<256>)
             base,
             count,
         } => certify_text(*answer, *base, *count, out),
+        Reply::CertifyMeanHead {
+            answer,
+            known,
+            count,
+        } => certify_mean_text(*answer, *known, *count, out),
         Reply::Side(side) => runs_text(side, out),
         Reply::Last(newest) => last_text(newest, out),
         Reply::ValuesHead(count) => values_text(*count, out),

@@ -22,8 +22,8 @@ fn choices(field: Field) -> &'static [&'static str] {
         Field::Fixed(Fixed::Open) => &["open"],
         Field::Fixed(Fixed::Close) => &["close"],
         Field::Fixed(Fixed::Has) => &["has"],
-        Field::Kind(Kinds::All) => &["count", "sum", "min", "max"],
-        Field::Kind(_) => &["count", "sum"],
+        Field::Kind(Kinds::All) => &["count", "sum", "min", "max", "mean"],
+        Field::Kind(_) => &["count", "sum", "mean"],
         Field::End => &["lo", "hi"],
         _ => &[],
     }

@@ -26,7 +26,7 @@ fn is_verb_in_capitals(word: &str) -> bool {
 
 // Whether a word says what is asked for of the values of a stream.
 fn is_kind(word: &str) -> bool {
-    matches!(word, "count" | "sum" | "min" | "max" | "has")
+    matches!(word, "count" | "sum" | "min" | "max" | "mean" | "has")
 }
 
 // What follows where a file isn't plain text, or is in another form.
@@ -77,7 +77,7 @@ pub fn hint(words: &[&str]) -> &'static str {
 /// What follows where a word is none of those that can be asked for.
 pub fn hint_on_kind(words: &[&str]) -> &'static str {
     match word_at(words, 2) {
-        "mean" | "avg" | "average" => ": a mean is a sum divided by a count",
+        "avg" | "average" => ": a mean is asked for as mean",
         _ if is_kind(word_at(words, 1)) => ": the name stands before what is asked for",
         _ => "",
     }

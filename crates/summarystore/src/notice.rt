@@ -44,20 +44,21 @@ is on the disk before it is printed. One program at a time can use a store.
   landmark NAME open T   from here on the values are kept one by one, until
   landmark NAME close T  the landmark is closed again
   drop NAME              removes a stream and all its values: NAME is free again
-  query NAME count|sum|min|max T1 T2
+  query NAME count|sum|min|max|mean T1 T2
                          what is known of the values from the time T1 to T2: the
-                         least and the greatest that the answer can be
+                         least and the greatest that the answer can be. A mean is
+                         a whole number, or a fraction in lowest terms, as 17/2
   query NAME has V T1 T2
                          whether one of these values is V: has absent says no,
                          has present yes, and has maybe that it may be so
-  series NAME count|sum|min|max T1 T2 STEP
+  series NAME count|sum|min|max|mean T1 T2 STEP
                          the same in rows of STEP times each, at most 100000:
                          the first time of a row, and what is known of it
-  estimate NAME count|sum T1 T2
+  estimate NAME count|sum|mean T1 T2
                          the same ends, and between them the likeliest answer
-  estimates NAME count|sum T1 T2 STEP
+  estimates NAME count|sum|mean T1 T2 STEP
                          the same in rows, as series has them
-  certify NAME count|sum lo|hi T1 T2
+  certify NAME count|sum|mean lo|hi T1 T2
                          values that the windows may have had, by which the
                          answer is just the lo, or the hi, that query prints
   last NAME              its last time, and what is known of its newest value

@@ -1,27 +1,27 @@
 // Evidence for an end of an answer: what is made, and what is found to show the end.
 ghost use Rattle.std.specs.Prelude.{IfSome, IsTrue};
-ghost use Rattle.ss_catalog.specs.Queries.{adds_up};
+ghost use Rattle.ss_catalog.specs.Queries.{is_certified};
 
 use crate::applying::READINGS;
 use crate::passing::pass;
 use crate::running::{Question, Running, crowd, fresh, play, reopen};
 use arrayvec::{ArrayString, ArrayVec};
-use ss_bounds::Split;
+use ss_bounds::{Fraction, Split};
 use ss_catalog::{End, Kind, Name, Query, Refusal};
-use ss_certify::{Cert, Evidence, Run, check, head, make, side};
+use ss_certify::{Answer, Cert, Evidence, Run, check, head, make, side};
 use ss_report::reply_text;
 use ss_store::AskError::{self, Disk, Refused, Stopped};
 use ss_store::OpenError;
 use std::alloc::Global;
 use std::test::Fail;
 
-// The query, if it adds up.
+// The query, if there are certificates of its answers.
 fn query_of(question: Question) -> Option<Query>
-    ensures { IfSome result (λ query. IsTrue (adds_up query.kind)) }
+    ensures { IfSome result (λ query. IsTrue (is_certified query.kind)) }
 {
     let (letter, kind, from, to) = question;
     let name = Name::of(&[letter])?;
-    if !kind.adds_up() {
+    if !kind.is_certified() {
         return None;
     }
     Some(Query {
@@ -87,7 +87,9 @@ fn has_sides(certs: &[Cert], sides: &[Sides]) -> bool {
 // The lines of the evidence for an end of an answer.
 type Told = (Question, End, &'static str, &'static [Sides]);
 
-const TOLD: [Told; 3] = [
+const MEAN: Question = (b'a', Kind::Mean, 25, 55);
+
+const TOLD: [Told; 6] = [
     (
         (b'a', Kind::Sum, 10, 25),
         End::Lo,
@@ -104,6 +106,27 @@ const TOLD: [Told; 3] = [
         ],
     ),
     ((b'a', Kind::Count, 10, 40), End::Lo, "certify 4 4 0\n", &[]),
+    (
+        MEAN,
+        End::Hi,
+        "certify 17/2 0 0 2\n",
+        &[
+            ("inside 1 4 1 8*1\n", "outside 1 4 3 -3*1 -2*1 8*1\n"),
+            ("inside 5 6 1 9*1\n", "outside 5 6 1 2*1\n"),
+        ],
+    ),
+    (
+        (b'a', Kind::Mean, 0, 100),
+        End::Lo,
+        "certify 29/7 29 7 0\n",
+        &[],
+    ),
+    (
+        (b'a', Kind::Mean, 80, 90),
+        End::Hi,
+        "certify none 0 0 0\n",
+        &[],
+    ),
 ];
 
 // Whether the evidence that is made has these lines, and is found to show the end.
@@ -153,7 +176,7 @@ const FOUR: Split = Split {
     outside: 14,
 };
 
-// The answer and the base; the first and last position and how many values are in the range; two runs inside and one outside,
+// The sum, and that of what is known; the first and last position and how many values are in the range; two runs inside and one outside,
 // each a value and how many of it.
 type Numbers = (i128, i128, u64, u64, u64, [(i64, u64); 3]);
 
@@ -215,13 +238,18 @@ fn cert_of(claim: Claim) -> Cert {
     }
 }
 
+// A sum of no known values.
+fn known_sum(over: i128) -> Fraction {
+    Fraction { over, under: 0 }
+}
+
 fn evidence_of(claim: Claim) -> Evidence {
     let (_, (answer, base, _, _, _, _)) = claim;
     let mut certs = ArrayVec::new();
     certs.push(cert_of(claim));
     Evidence {
-        answer,
-        base,
+        answer: Answer::Sum(answer),
+        known: known_sum(base),
         certs,
     }
 }
@@ -230,8 +258,8 @@ fn evidence_of(claim: Claim) -> Evidence {
 fn bare(claim: Claim) -> Evidence {
     let (_, (answer, base, _, _, _, _)) = claim;
     Evidence {
-        answer,
-        base,
+        answer: Answer::Sum(answer),
+        known: known_sum(base),
         certs: ArrayVec::new(),
     }
 }
@@ -264,6 +292,47 @@ fn misjudged_after_readings(alloc: Global) -> Result<Option<usize>, OpenError> {
 #[test]
 fn evidence_with_one_number_changed_shows_nothing(rt: HostRuntime) -> Result<(), Fail> {
     pass(misjudged_after_readings(rt.alloc())?)
+}
+
+// What may be said of the greatest mean, and whether the values that are made for it show that.
+const MEANS: [(Answer, bool); 5] = [
+    (Answer::Mean(Some(Fraction { over: 17, under: 2 })), true),
+    (Answer::Mean(Some(Fraction { over: 34, under: 4 })), false),
+    (Answer::Mean(None), false),
+    (Answer::Sum(17), false),
+    (Answer::Count(2), false),
+];
+
+// Whether the evidence for the greatest mean shows an answer, or not.
+fn is_shown(running: &mut Running, answer: Answer, shows: bool) -> bool {
+    match made(running, MEAN, End::Hi) {
+        Some(Ok(evidence)) => {
+            let other = Evidence { answer, ..evidence };
+            shown(running, MEAN, End::Hi, &other) == Some(Ok(shows))
+        }
+        _ => false,
+    }
+}
+
+// The first row that is found otherwise.
+fn first_mean_misjudged(running: &mut Running) -> Option<usize> {
+    play(running, &READINGS);
+    for (row, (answer, shows)) in MEANS.iter().enumerate() {
+        if !is_shown(running, *answer, *shows) {
+            return Some(row);
+        }
+    }
+    None
+}
+
+fn mean_misjudged_after_readings(alloc: Global) -> Result<Option<usize>, OpenError> {
+    let mut running = fresh(alloc)?;
+    Ok(first_mean_misjudged(&mut running))
+}
+
+#[test]
+fn evidence_of_a_mean_shows_it_in_lowest_terms_alone(rt: HostRuntime) -> Result<(), Fail> {
+    pass(mean_misjudged_after_readings(rt.alloc())?)
 }
 
 #[derive(Clone, Copy)]

@@ -149,14 +149,15 @@ fn forms(rt: HostRuntime) -> Result<(), Fail> {
         create a within 5 exp 2 1 1/>refused SYNTAX/=1 SYNTAX: \"within\" is neither exp nor power;\n\
         landmark a shut 1/>refused SYNTAX/=1 SYNTAX: \"shut\" is neither open nor close;\n\
         Drop a/>refused SYNTAX/=1 SYNTAX: no command begins with \"Drop\": commands are in small letters;\n\
-        query a mean 1 2/>refused SYNTAX/=1 SYNTAX: \"mean\" is none of count, sum, min, max and has: \
-        a mean is a sum divided by a count;\n\
-        series a avg 1 2 3/>refused SYNTAX/=1 SYNTAX: \"avg\" is none of count, sum, min and max: a mean is a sum divided by a count;\n\
-        series a has 1 2 3/>refused SYNTAX/=1 SYNTAX: \"has\" is none of count, sum, min and max;\n\
-        estimate a min 1 2/>refused SYNTAX/=1 SYNTAX: \"min\" is neither count nor sum;\n\
-        estimates a avg 1 2 3/>refused SYNTAX/=1 SYNTAX: \"avg\" is neither count nor sum: a mean is a sum divided by a count;\n\
-        certify a min lo 1 2/>refused SYNTAX/=1 SYNTAX: \"min\" is neither count nor sum;\n\
-        certify a has lo 1 2/>refused SYNTAX/=1 SYNTAX: \"has\" is neither count nor sum;\n\
+        query a average 1 2/>refused SYNTAX/=1 SYNTAX: \"average\" is none of count, sum, min, max, mean and has: \
+        a mean is asked for as mean;\n\
+        query a Mean 1 2/>refused SYNTAX/=1 SYNTAX: \"Mean\" is none of count, sum, min, max, mean and has;\n\
+        series a avg 1 2 3/>refused SYNTAX/=1 SYNTAX: \"avg\" is none of count, sum, min, max and mean: a mean is asked for as mean;\n\
+        series a has 1 2 3/>refused SYNTAX/=1 SYNTAX: \"has\" is none of count, sum, min, max and mean;\n\
+        estimate a min 1 2/>refused SYNTAX/=1 SYNTAX: \"min\" is none of count, sum and mean;\n\
+        estimates a avg 1 2 3/>refused SYNTAX/=1 SYNTAX: \"avg\" is none of count, sum and mean: a mean is asked for as mean;\n\
+        certify a min lo 1 2/>refused SYNTAX/=1 SYNTAX: \"min\" is none of count, sum and mean;\n\
+        certify a has lo 1 2/>refused SYNTAX/=1 SYNTAX: \"has\" is none of count, sum and mean;\n\
         certify a sum low 1 2/>refused SYNTAX/=1 SYNTAX: \"low\" is neither lo nor hi;\n\
         Certify/>refused SYNTAX/=1 SYNTAX: no command begins with \"Certify\": commands are in small letters;\n\
         Series/>refused SYNTAX/=1 SYNTAX: no command begins with \"Series\": commands are in small letters;\n\
@@ -165,8 +166,12 @@ fn forms(rt: HostRuntime) -> Result<(), Fail> {
         a append 1 5/>refused SYNTAX/=1 SYNTAX: no command begins with \"a\": the command stands first, as in append NAME T V;\n\
         sum a 1 5/>refused SYNTAX/=1 SYNTAX: no command begins with \"sum\": \
         that is asked for by a query, as in query NAME sum T1 T2;\n\
-        query sum a 1 5/>refused SYNTAX/=1 SYNTAX: \"a\" is none of count, sum, min, max and has: \
+        query sum a 1 5/>refused SYNTAX/=1 SYNTAX: \"a\" is none of count, sum, min, max, mean and has: \
         the name stands before what is asked for;\n\
+        query mean a 1 5/>refused SYNTAX/=1 SYNTAX: \"a\" is none of count, sum, min, max, mean and has: \
+        the name stands before what is asked for;\n\
+        mean a 1 5/>refused SYNTAX/=1 SYNTAX: no command begins with \"mean\": \
+        that is asked for by a query, as in query NAME sum T1 T2;\n\
         frame 0200/>refused SYNTAX/=1 SYNTAX: no command begins with \"frame\": \
         the bytes that its digits spell are read by the mode follow;\n\
         \x02\0\x01/>refused SYNTAX/=1 SYNTAX: no command begins with \"\\x02\\x00\\x01\": \
@@ -201,31 +206,31 @@ fn words_of_forms(rt: HostRuntime) -> Result<(), Fail> {
         3 SYNTAX: landmark NAME open T has 4 words, and this line has 5;\n\
         drop a/drop/drop a 9/>=2 SYNTAX: drop NAME has 2 words, and this line has 1;3 SYNTAX: drop NAME has 2 words, and this line has 3;\n\
         query a sum 1 2/query a sum 1/query a sum 1 2 9/>=\
-        2 SYNTAX: query NAME count|sum|min|max T1 T2 has 5 words, and this line has 4;\
-        3 SYNTAX: query NAME count|sum|min|max T1 T2 has 5 words, and this line has 6;\n\
+        2 SYNTAX: query NAME count|sum|min|max|mean T1 T2 has 5 words, and this line has 4;\
+        3 SYNTAX: query NAME count|sum|min|max|mean T1 T2 has 5 words, and this line has 6;\n\
         query a has 5 1 2/query a has 5 1/query a has 5 1 2 9/>=\
         2 SYNTAX: query NAME has V T1 T2 has 6 words, and this line has 5;\
         3 SYNTAX: query NAME has V T1 T2 has 6 words, and this line has 7;\n\
         series a sum 1 2 3/series a sum 1 2/series a sum 1 2 3 9/>=\
-        2 SYNTAX: series NAME count|sum|min|max T1 T2 STEP has 6 words, and this line has 5;\
-        3 SYNTAX: series NAME count|sum|min|max T1 T2 STEP has 6 words, and this line has 7;\n\
+        2 SYNTAX: series NAME count|sum|min|max|mean T1 T2 STEP has 6 words, and this line has 5;\
+        3 SYNTAX: series NAME count|sum|min|max|mean T1 T2 STEP has 6 words, and this line has 7;\n\
         windows a/windows/windows a 9/>=\
         2 SYNTAX: windows NAME has 2 words, and this line has 1;\
         3 SYNTAX: windows NAME has 2 words, and this line has 3;\n\
         list/list 9/>=2 SYNTAX: list has 1 word, and this line has 2;\n\
         certify a sum lo 1 2/certify a sum lo 1/certify a sum lo 1 2 9/>=\
-        2 SYNTAX: certify NAME count|sum lo|hi T1 T2 has 6 words, and this line has 5;\
-        3 SYNTAX: certify NAME count|sum lo|hi T1 T2 has 6 words, and this line has 7;\n\
+        2 SYNTAX: certify NAME count|sum|mean lo|hi T1 T2 has 6 words, and this line has 5;\
+        3 SYNTAX: certify NAME count|sum|mean lo|hi T1 T2 has 6 words, and this line has 7;\n\
         last a/last/last a 9/>=2 SYNTAX: last NAME has 2 words, and this line has 1;3 SYNTAX: last NAME has 2 words, and this line has 3;\n\
         values a 1 2/values a 1/values a 1 2 9/>=\
         2 SYNTAX: values NAME T1 T2 has 4 words, and this line has 3;\
         3 SYNTAX: values NAME T1 T2 has 4 words, and this line has 5;\n\
         estimate a sum 1 2/estimate a sum 1/estimate a sum 1 2 9/>=\
-        2 SYNTAX: estimate NAME count|sum T1 T2 has 5 words, and this line has 4;\
-        3 SYNTAX: estimate NAME count|sum T1 T2 has 5 words, and this line has 6;\n\
+        2 SYNTAX: estimate NAME count|sum|mean T1 T2 has 5 words, and this line has 4;\
+        3 SYNTAX: estimate NAME count|sum|mean T1 T2 has 5 words, and this line has 6;\n\
         estimates a sum 1 2 3/estimates a sum 1 2/estimates a sum 1 2 3 9/>=\
-        2 SYNTAX: estimates NAME count|sum T1 T2 STEP has 6 words, and this line has 5;\
-        3 SYNTAX: estimates NAME count|sum T1 T2 STEP has 6 words, and this line has 7;\n",
+        2 SYNTAX: estimates NAME count|sum|mean T1 T2 STEP has 6 words, and this line has 5;\
+        3 SYNTAX: estimates NAME count|sum|mean T1 T2 STEP has 6 words, and this line has 7;\n",
     ))
 }
 

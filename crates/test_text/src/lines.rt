@@ -89,7 +89,7 @@ fn write_kind(kind: Kind, out: &mut Text) {
 
 fn write_query(query: &Query, out: &mut Text) {
     let verb: &[u8] = match query.kind {
-        Kind::CountGuess | Kind::SumGuess => b"estimate",
+        Kind::CountGuess | Kind::SumGuess | Kind::MeanGuess => b"estimate",
         _ => b"query",
     };
     write(verb, out);
@@ -192,9 +192,11 @@ fn lines_without_a_command() -> Result<(), Fail> {
         Drop a=SYNTAX\n\
         query a sum 1=SYNTAX\n\
         query a sum 1 2 3=SYNTAX\n\
-        query a mean 1 2=SYNTAX\n\
+        query a avg 1 2=SYNTAX\n\
+        query a mean 1=SYNTAX\n\
+        query a Mean 1 2=SYNTAX\n\
         query a MIN 1 2=SYNTAX\n\
-        query x! mean y 2=SYNTAX\n\
+        query x! avg y 2=SYNTAX\n\
         query a has=SYNTAX\n\
         query a has 1 2=SYNTAX\n\
         query a has 5 1 2 3=SYNTAX\n\
@@ -208,7 +210,7 @@ fn lines_without_a_command() -> Result<(), Fail> {
         certify a has 5 1 2=SYNTAX\n\
         series a sum 1 2=SYNTAX\n\
         series a sum 1 2 3 4=SYNTAX\n\
-        series a mean 1 2 3=SYNTAX\n\
+        series a mean 1 2=SYNTAX\n\
         series x! Sum y 2 0=SYNTAX\n\
         estimate a sum 1=SYNTAX\n\
         estimate a sum 1 2 3=SYNTAX\n\
@@ -221,7 +223,8 @@ fn lines_without_a_command() -> Result<(), Fail> {
         certify a sum lo 1 2 3=SYNTAX\n\
         certify a min lo 1 2=SYNTAX\n\
         certify a max hi 1 2=SYNTAX\n\
-        certify a mean hi 1 2=SYNTAX\n\
+        certify a mean 1 2=SYNTAX\n\
+        certify a mean mid 1 2=SYNTAX\n\
         certify a sum Lo 1 2=SYNTAX\n\
         certify a lo sum 1 2=SYNTAX\n\
         certify x! count low y 2=SYNTAX\n\
@@ -343,6 +346,7 @@ fn commands_are_printed() -> Result<(), Fail> {
         \x20query\ta sum 0 4611686018427387904=query a sum 0 4611686018427387904\n\
         query a min 5 4=query a min 5 4\n\
         query a max 45 65=query a max 45 65\n\
+        \x20query\ta mean 0 4611686018427387904=query a mean 0 4611686018427387904\n\
         query a has 005 10 040=query a has 5 10 40\n\
         \x20query\ta has -0 0 4611686018427387904=query a has 0 0 4611686018427387904\n\
         query a has -9223372036854775808 5 4=query a has -9223372036854775808 5 4\n\
@@ -354,13 +358,17 @@ fn commands_are_printed() -> Result<(), Fail> {
         series a sum 0 4611686018427387904 4611686018427387904\n\
         series a min 5 4 1=series a min 5 4 1\n\
         series a max 0 99999 1=series a max 0 99999 1\n\
+        series a mean 0 100 025=series a mean 0 100 25\n\
         estimate a count 10 040=estimate a count 10 40\n\
         \x20estimate\tabcdefghijklmnopqrstuvwxyz012345 sum 5 4=estimate abcdefghijklmnopqrstuvwxyz012345 sum 5 4\n\
         estimates a count 0 99999 01=estimates a count 0 99999 1\n\
         estimates a sum 5 4 4611686018427387904=estimates a sum 5 4 4611686018427387904\n\
+        estimate a mean 10 040=estimate a mean 10 40\n\
+        estimates a mean 0 99999 01=estimates a mean 0 99999 1\n\
         certify a count lo 10 040=certify a count lo 10 40\n\
         \x20certify\ta sum hi 0 4611686018427387904=certify a sum hi 0 4611686018427387904\n\
         certify abcdefghijklmnopqrstuvwxyz012345 sum lo 5 4=certify abcdefghijklmnopqrstuvwxyz012345 sum lo 5 4\n\
+        certify a mean hi 25 055=certify a mean hi 25 55\n\
         \x20last\ta =last a\n\
         values a 005 04=values a 5 4\n\
         values abcdefghijklmnopqrstuvwxyz012345 0 4611686018427387904=\

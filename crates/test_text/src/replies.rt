@@ -2,7 +2,7 @@
 use crate::tables::{Subject, Text, numbers_of, show, test};
 use arrayvec::ArrayString;
 use ss_base::LAST_TIME;
-use ss_bounds::Extreme;
+use ss_bounds::{Extreme, Fraction, Mean, MeanGuess};
 use ss_catalog::{Event, Family, Kind, Name, Params, Refusal, StreamId};
 use ss_frames::Frame;
 use ss_model::{Ack, Newest, Outcome, Placed, Presence, Run, StreamRow};
@@ -73,6 +73,62 @@ fn write_window(out: &mut Text) {
         summary: Summary::join(Summary::one(10, i64::MIN), Summary::one(20, i64::MIN)),
     };
     write_reply(&Reply::Window(row), out);
+}
+
+// So much over so much.
+fn over(over: i128, under: u64) -> Fraction {
+    Fraction { over, under }
+}
+
+fn mean_at(row: u64) -> Outcome {
+    let longest = over(i128::MIN, u64::MAX);
+    match row {
+        61 => Outcome::Mean(Mean::Sure {
+            lo: over(-1, 1),
+            hi: over(17, 2),
+        }),
+        62 => Outcome::Mean(Mean::Maybe {
+            lo: longest,
+            hi: longest,
+        }),
+        63 => Outcome::Mean(Mean::Nothing),
+        64 => Outcome::MeanEstimate(MeanGuess::Sure {
+            lo: over(-1, 1),
+            guess: over(11, 3),
+            hi: over(17, 2),
+        }),
+        65 => Outcome::MeanEstimate(MeanGuess::Maybe {
+            lo: longest,
+            guess: longest,
+            hi: longest,
+        }),
+        _ => Outcome::MeanEstimate(MeanGuess::Nothing),
+    }
+}
+
+// The replies to a query of a mean, and to a certify.
+fn write_mean(row: u64, out: &mut Text) {
+    let longest = over(i128::MIN, u64::MAX);
+    let (answer, known) = match row {
+        68 => (Some(over(17, 2)), over(-2, 1)),
+        69 => (Some(longest), longest),
+        _ => (None, over(0, 0)),
+    };
+    match row {
+        61..=66 => write_reply(&Reply::Answered(mean_at(row)), out),
+        67 => {
+            let (at, outcome) = (LAST_TIME, mean_at(65));
+            write_reply(&Reply::Row { at, outcome }, out);
+        }
+        _ => write_reply(
+            &Reply::CertifyMeanHead {
+                answer,
+                known,
+                count: u32::MAX,
+            },
+            out,
+        ),
+    }
 }
 
 fn outcome_at(row: u64) -> Outcome {
@@ -289,6 +345,7 @@ fn write_row(row: u64, out: &mut Text) {
         58 => write_series_row(56, out),
         59 => write_short_stream(Some(60), out),
         60 => write_longest_stream(Some(u32::MAX), out),
+        61..=70 => write_mean(row, out),
         _ => write_reply(&Reply::Answered(outcome_at(row)), out),
     }
 }
@@ -369,7 +426,23 @@ fn each_reply_has_its_line() -> Result<(), Fail> {
         58=56 -170141183460469231731687303715884105728 -1 170141183460469231731687303715884105727/\n\
         59=a exp 2 1 1 within 60 7 3 0 0/\n\
         60=abcdefghijklmnopqrstuvwxyz012345 power 4294967295 4294967295 4294967295 4294967295 within 4294967295 \
-        18446744073709551615 4294967295 4294967295 4294967295/\n"
+        18446744073709551615 4294967295 4294967295 4294967295/\n\
+        61=mean -1 17/2/\n\
+        62=mean -170141183460469231731687303715884105728/18446744073709551615 \
+        -170141183460469231731687303715884105728/18446744073709551615 maybe-none/\n\
+        63=mean none/\n\
+        64=estimate -1 11/3 17/2/\n\
+        65=estimate -170141183460469231731687303715884105728/18446744073709551615 \
+        -170141183460469231731687303715884105728/18446744073709551615 \
+        -170141183460469231731687303715884105728/18446744073709551615 maybe-none/\n\
+        66=estimate none/\n\
+        67=4611686018427387904 -170141183460469231731687303715884105728/18446744073709551615 \
+        -170141183460469231731687303715884105728/18446744073709551615 \
+        -170141183460469231731687303715884105728/18446744073709551615 maybe-none/\n\
+        68=certify 17/2 -2 1 4294967295/\n\
+        69=certify -170141183460469231731687303715884105728/18446744073709551615 \
+        -170141183460469231731687303715884105728 18446744073709551615 4294967295/\n\
+        70=certify none 0 0 4294967295/\n"
             .as_bytes(),
     )
 }

@@ -72,4 +72,4 @@ returns-clause-few c =
     let inside = (inside-fills c.args.cut c.args.x c.args.sum split c.requires).count in
     let count : run_count c.fill.result.items ≡ c.args.x =
     ap run_count same ∙ sym (length-values_of_runs (fill c.args.x c.args.sum c.args.cut.split.min c.args.cut.split.max)) ∙ inside in
-    omega (arith, c.requires.few)
+    (omega (arith, c.requires.few), omega (arith, c.requires.few))

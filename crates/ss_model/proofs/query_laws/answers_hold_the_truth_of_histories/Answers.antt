@@ -2,6 +2,10 @@ use Rattle.ss_model.proofs.Common.{◌≤◌, ◌≤ℤ◌, HoldsExtreme, is_fre
 use Rattle.ss_model.proofs.Common.{interval_of_greatest, interval_of_least, interval_of_sum, presence_of, marked_values, true_count, true_greatest}
 use Rattle.ss_model.proofs.Common.{true_least, true_presence, true_sum, windows}
 use Rattle.ss_model.proofs.IntervalLemmas.{count-lies, sum-lies, least-HoldsExtreme, greatest-HoldsExtreme}
+use Rattle.ss_bounds.specs.MeanTruth.{HoldsMean}
+use Rattle.ss_model.specs.Interval.{interval_of_mean}
+use Rattle.ss_model.specs.Truth.{true_values}
+use Rattle.ss_model.proofs.MeanLemmas.{mean-HoldsMean}
 use Rattle.ss_model.proofs.PieceLemmas.{AreExactlyOf-windows, AreOf-windows}
 use Rattle.ss_model.proofs.PresenceLemmas.{presence-holds}
 use Rattle.ss_model.proofs.ReadLemmas.{All-state}
@@ -37,6 +41,14 @@ returns-clause-greatest c history from to whole =
     All-state (λ s. HoldsExtreme (interval_of_greatest (is_free s.landmarks) from to s.windows (marked_values s.landmarks))
     (true_greatest from to (values_of history s.name) (marked_of history s.name))) history
     (λ s. greatest-HoldsExtreme (is_free (landmarks_of history s.name)) from to (windows (rule_of s.params) (values_of history s.name))
+    (values_of history s.name) (marked_of history s.name) 0
+    (AreOf-windows (rule_of s.params) (values_of history s.name)) (values-rise history s.name whole))
+
+pub returns-clause-mean : goal.returns-clause-mean
+returns-clause-mean c history from to whole =
+    All-state (λ s. HoldsMean (interval_of_mean (is_free s.landmarks) from to s.windows (marked_values s.landmarks))
+    (true_values from to (values_of history s.name) (marked_of history s.name))) history
+    (λ s. mean-HoldsMean (is_free (landmarks_of history s.name)) from to (windows (rule_of s.params) (values_of history s.name))
     (values_of history s.name) (marked_of history s.name) 0
     (AreOf-windows (rule_of s.params) (values_of history s.name)) (values-rise history s.name whole))
 

@@ -21,7 +21,7 @@ pub returns-clause-estimate : goal.returns-clause-estimate
 returns-clause-estimate c talk speaker line query whole asked is none =
     let plain = asked-plain talk speaker (Ask query) line asked (λ framed. refl) in
     let it = estimate-line talk.history plain.0 query whole plain.1 is none in
-    (it.0, it.1, it.2, plain.2 ∙ ap (turn_brought speaker talk) it.3, it.4, it.5, it.6, it.7, it.8)
+    (it.0, plain.2 ∙ ap (turn_brought speaker talk) it.1, it.2, it.3, it.4, it.5)
 
 pub returns-clause-series : goal.returns-clause-series
 returns-clause-series c talk speaker line series whole asked none =

@@ -1,7 +1,7 @@
 use Rattle.std.proofs.Common.{ap, arith, List, ℕ, length, length-append}
 use Rattle.std.specs.Fmt.{decimal}
 use Rattle.ss_command.proofs.PutLemmas.{length-decimal_64}
-use Rattle.ss_report.proofs.text.put_run.Goals as goal
+use Rattle.ss_report.proofs.certificates.put_run.Goals as goal
 
 pub print_u64-requires : goal.print_u64-requires
 print_u64-requires c = omega (arith, c.requires, c.put_value.ensures.short, c.push_str.ensures.len)

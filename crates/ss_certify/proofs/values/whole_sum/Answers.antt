@@ -1,7 +1,7 @@
 use Rattle.std.proofs.Common.{arith, subst, sym, ◌<◌, ◌^◌, ℤ}
 use Rattle.std.specs.Prelude.{unsigned_abs}
 use Rattle.ss_query.proofs.NearSums.{held-near, sum-near}
-use Rattle.ss_certify.proofs.base.whole_sum.Goals as goal
+use Rattle.ss_certify.proofs.values.whole_sum.Goals as goal
 
 pub returns-in-Some-clause-near : goal.returns-in-Some-clause-near
 returns-in-Some-clause-near c =

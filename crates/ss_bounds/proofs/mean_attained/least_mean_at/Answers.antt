@@ -1,0 +1,9 @@
+use Rattle.std.proofs.Common.{◌∙◌}
+use Rattle.ss_bounds.proofs.MeanAttainedLemmas.{computed-least}
+use Rattle.ss_bounds.proofs.mean_attained.least_mean_at.Goals as goal
+
+pub returns : goal.returns
+returns c =
+    c.first_corner.ensures
+    ∙ computed-least c.args.known c.args.window c.args.other c.corners_of-window.result c.sides_of-other.result.least
+    (c.corners_of-window.ensures.split, c.corners_of-window.ensures.corners) c.sides_of-other.ensures.least
