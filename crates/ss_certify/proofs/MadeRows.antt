@@ -42,7 +42,7 @@ abbrev pub evidence : Answer → ℤ → ℕ → List Cert → Evidence
 evidence answer sum count certs = record { answer = answer; known = record { over = sum; under = count }; certs = record { items = certs } }
 
 -- the windows of the readings 5, -3, 8, 1, 9, 2 and 7 at the times 10 to 70
-pub readings : Stream
+unfoldable pub readings : Stream
 readings = stream (window 1 4 (pos 11) (negsuc 2) (pos 8) 10 40 ∷ window 5 2 (pos 11) (pos 2) (pos 9) 50 60 ∷ window 7 1 (pos 7) (pos 7) (pos 7) 70 70 ∷ []) []
 
 -- their first window and the next one, each with one of its ends in the range
