@@ -142,7 +142,7 @@ queries =
     text (codes "query a count 10 40" ∷ codes "query a sum 0 100" ∷ codes "query a max 45 65" ∷ codes "query a min 71 80"
     ∷ codes "query a count 10 25" ∷ codes "query a sum 10 25" ∷ codes "query a min 10 25" ∷ codes "query a min 15 25" ∷ codes "query a count 15 25"
     ∷ codes "query a count 25 55" ∷ codes "query a sum 25 55" ∷ codes "query a min 25 55" ∷ codes "query a max 25 55"
-    ∷ codes "query a sum 5 4" ∷ codes "query x sum 5 4" ∷ codes "query a mean 5 4" ∷ codes "query a sum 5 x" ∷ codes "query a! sum 5 4" ∷ [])
+    ∷ codes "query a sum 5 4" ∷ codes "query x sum 5 4" ∷ codes "query a median 5 4" ∷ codes "query a sum 5 x" ∷ codes "query a! sum 5 4" ∷ [])
 
 report-queries : report (plain_talk history) queries
     ≡ text (codes "count 4 4" ∷ codes "sum 29 29" ∷ codes "max 9 9" ∷ codes "min none"

@@ -27,7 +27,7 @@ readings = map added (
 abbrev series : List ℕ
 series =
     text (codes "series a sum 10 70 25" ∷ codes "series a max 0 100 50" ∷ codes "series a min 15 16 1" ∷ codes "series a count 10 10 9"
-    ∷ codes "series x sum 5 4 1" ∷ codes "series a sum 5 4 1" ∷ codes "series a mean 5 4 1" ∷ codes "series a! sum 0 100000 1"
+    ∷ codes "series x sum 5 4 1" ∷ codes "series a sum 5 4 1" ∷ codes "series a median 5 4 1" ∷ codes "series a! sum 0 100000 1"
     ∷ codes "series a! sum 0 99999 1" ∷ [])
 
 report-series : report (plain_talk readings) series
