@@ -1,5 +1,5 @@
 -- What a session makes of a history: another one, over which its queries are answered.
-use Rattle.ss_program.proofs.Common.{◌≡◌, ◌∙◌, ◌++◌, List, [], ◌∷◌, ℕ, ℤ, map, Option, Some, None, IsSome, true, Result, Ok, Err, refl, sym, ap, Bool}
+use Rattle.ss_program.proofs.Common.{◌≡◌, ◌∙◌, ◌++◌, List, [], ◌∷◌, ℕ, ℤ, map, Option, Some, None, IsSome, true, false, Result, Ok, Err, refl, sym, ap, Bool}
 use Rattle.ss_program.proofs.Common.{append-nil, Event, Create, Value, Open, Close, Drop, is_certified, is_guess, End, Kind, Query, Refusal, Series}
 use Rattle.ss_program.proofs.Common.{row_count, row_start, rows_of, MayBeAnswer-answer, end_asked-answer, evidence_in, told, Evidence, meant-sayable, meaning}
 use Rattle.ss_program.proofs.Common.{IsSayable, Command, Do, Ask, Certify, answer-ends, answer-exact, answer-holds, answer-kind, answer-known, IsHistory_push}
@@ -114,7 +114,7 @@ guess-between query plain marked (Sum lo hi) answer holds ends = absurd ends
 guess-between query plain marked (Min extreme) answer holds ends = absurd ends
 guess-between query plain marked (Max extreme) answer holds ends = absurd ends
 guess-between query plain marked (Mean known) answer holds ends = absurd ends
-guess-between query plain marked (Has presence) answer holds ends = absurd ends
+guess-between query plain marked (Has known) answer holds ends = absurd ends
 guess-between query plain marked (Estimate lo guess hi) answer holds ends = (holds.2, holds.3)
 guess-between query plain marked (MeanEstimate known) answer holds ends = holds.guess
 
