@@ -73,7 +73,7 @@ class Questions:
         return self._do(calls.value_at(self._translator.codec(name), time))
 
     def mean(self, name: str, t1: object | None = None, t2: object | None = None) -> Interval:
-        """The mean of the values from t1 to t2: no end of it can be narrower, for all that the store knows.
+        """The mean of the values from t1 to t2: by the figures of its windows no end can be narrower.
 
         It has at most 12 digits more than the scale. What doesn't end there is rounded outwards.
         """
