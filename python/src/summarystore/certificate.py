@@ -140,7 +140,7 @@ def cuts_of(kind: str, reply: Reply) -> tuple[Answer, Known, tuple[Cut, ...]]:
 
 @dataclass(frozen=True)
 class Certificate:
-    """Values that a stream may have had, for all that the store knows, with which this end is right.
+    """Values that a stream may have had, filters aside, with which this end is right.
 
     All numbers are the stream's whole numbers. `answer` is that of `base`, the values which are known to lie
     in the range, and of those inside.
