@@ -51,23 +51,28 @@ abbrev pub IsWhole : Brought → Result Reply Status → Type 0
 IsWhole brought result = IfOk result (λ reply. brought.replies ≡ reply ∷ [])
 
 -- What is brought is staged: its event, if it has one. Its reply is answered.
-abbrev pub StagesHeld : (History → Brought) → RecordsState → RecordsState → Result Reply Status → Told → Told → Type 0
-StagesHeld brought was is result old new = OfHeld was old (λ history staged. let here = brought (history ++ staged) in
-    Adds history staged (the_event here.event) is old new result × IsWhole here result)
+pub record StagesHeld (brought : History → Brought) (was is : RecordsState) (result : Result Reply Status) (old new : Told) : Type 0 where
+  pub each : OfHeld was old (λ history staged. let here = brought (history ++ staged) in
+      Adds history staged (the_event here.event) is old new result × IsWhole here result)
 
 -- What is staged comes to the disk.
-abbrev pub SealsHeld : RecordsState → RecordsState → Result Unit Status → Told → Told → Type 0
-SealsHeld was is result old new = OfHeld was old (λ history staged. Brings history staged is old new result)
+pub record SealsHeld (was is : RecordsState) (result : Result Unit Status) (old new : Told) : Type 0 where
+  pub each : OfHeld was old (λ history staged. Brings history staged is old new result)
 
 -- What is brought comes to the disk behind what is staged. Its reply is answered.
-abbrev pub AppliesHeld : (History → Brought) → RecordsState → RecordsState → Result Reply Status → Told → Told → Type 0
-AppliesHeld brought was is result old new = OfHeld was old (λ history staged. let here = brought (history ++ staged) in
-    Brings history (staged ++ the_event here.event) is old new result × IsWhole here result)
+pub record AppliesHeld (brought : History → Brought) (was is : RecordsState) (result : Result Reply Status) (old new : Told) : Type 0 where
+  pub each : OfHeld was old (λ history staged. let here = brought (history ++ staged) in
+      Brings history (staged ++ the_event here.event) is old new result × IsWhole here result)
 
 -- What is brought comes to the disk behind what is staged. Its text is said.
-abbrev pub SaysHeld : (History → Brought) → RecordsState → RecordsState → List ℕ → Result Unit Status → Told → Told → Type 0
-SaysHeld brought was is said result old new = OfHeld was old (λ history staged. let here = brought (history ++ staged) in
-    Brings history (staged ++ the_event here.event) is old new result × OnOk result (said ≡ text_brought here))
+pub record SaysHeld (brought : History → Brought) (was is : RecordsState) (said : List ℕ) (result : Result Unit Status) (old new : Told) : Type 0 where
+  pub each : OfHeld was old (λ history staged. let here = brought (history ++ staged) in
+      Brings history (staged ++ the_event here.event) is old new result × OnOk result (said ≡ text_brought here))
+
+-- The same over records with nothing staged.
+pub record SaysOpen (brought : History → Brought) (was is : RecordsState) (said : List ℕ) (result : Result Unit Status) (old new : Told) : Type 0 where
+  pub each : (history : History) → Holds history [] was old →
+      Brings history (the_event (brought history).event) is old new result × OnOk result (said ≡ text_brought (brought history))
 
 -- a line without one line end at its end
 abbrev pub without_end : List ℕ → List ℕ

@@ -1,4 +1,5 @@
 pub mod Calls
 pub mod Holds
+pub mod InTurn
 pub mod Opens
 pub mod Text

@@ -9,6 +9,19 @@ use ss_store::{OpenError, Store};
 use std::alloc::Global;
 use std::marker::Model;
 
+ghost use Rattle.std.specs.Prelude.{◌≡◌};
+ghost use Rattle.ss_connection.specs.Calls.{stop_of};
+
+// Why a call ends the connection, where it does.
+fn stop_of<T>(answered: &Result<T, Status>) -> Option<Status>
+    ensures { result ≡ stop_of answered.now }
+{
+    match answered {
+        Ok(_) => None,
+        Err(status) => Some(*status),
+    }
+}
+
 /// A store in the caller's own process, on a disk that it doesn't hold: each call takes the disk, as the last such call left it. It is
 /// handed lines of commands, whose replies are the program's, and events and questions as values. An event that is staged comes to the
 /// disk with the next call that seals, together with all that were staged before it. A call that stops ends the connection: from then
@@ -31,7 +44,6 @@ impl Model for Connection {
 impl Connection {
     ghost use Rattle.std.specs.Prelude.{◌≡◌, [], None, IfOk};
     ghost use Rattle.ss_outside.specs.Step.{Step};
-    ghost use Rattle.ss_connection.specs.Calls.{stop_of};
     ghost use Rattle.ss_connection.specs.Holds.{IsUsable};
     ghost use Rattle.ss_connection.specs.Opens.{OpensHeld};
     ghost use Rattle.ss_store.specs.Errors.{verdict_of_opening};

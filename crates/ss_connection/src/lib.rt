@@ -3,7 +3,9 @@
 
 mod bare;
 mod connection;
+mod laws;
 mod text;
 
 pub use connection::Connection;
+pub use laws::{calls_say_what_a_run_says, typed_calls_do_what_lines_say};
 pub use text::Text;

@@ -24,7 +24,6 @@ mod taking;
 mod talk;
 
 pub use answer::{Question, ask, show};
-pub use refuse::refuse;
 pub use running::{LONGEST_INPUT, run};
 pub use sending::send;
 pub use staging::stage;

@@ -1,5 +1,5 @@
 // Lines of commands, as a run takes them.
-use super::Connection;
+use super::{Connection, stop_of};
 use super::typed::{apply_to_store, seal_store};
 use crate::bare::bare;
 use crate::text::Text;
@@ -10,13 +10,13 @@ use ss_program::{Question, Status, ask, show};
 use ss_report::Reply;
 use ss_store::Store;
 
-ghost use Rattle.std.specs.Prelude.{◌≡◌, ◌×◌, [], None, IfErr, IfOk, IfSome, OnOk};
+ghost use Rattle.std.specs.Prelude.{◌≡◌, Bool, [], None, IfErr, IfOk, IfSome, OnOk};
 ghost use Rattle.ss_command.specs.Grammar.{meaning};
 ghost use Rattle.ss_command.specs.Printed.{IsCommandInTime};
-ghost use Rattle.ss_connection.specs.Calls.{Called, SaysHeld, bare};
+ghost use Rattle.ss_connection.specs.Calls.{Called, SaysHeld, SaysOpen, bare};
 ghost use Rattle.ss_connection.specs.Holds.{IsUsable};
 ghost use Rattle.ss_outside.specs.Step.{Step};
-ghost use Rattle.ss_program.specs.Answer.{HasRows, IsOpen, question_command};
+ghost use Rattle.ss_program.specs.Answer.{HasRows, IsOpen, IsServing, question_command};
 ghost use Rattle.ss_program.specs.Line.{brings, command_brings, meaning_brings};
 ghost use Rattle.ss_program.specs.Status.{IsApplyStop, IsShowStop, disk_verdict, ended};
 
@@ -40,7 +40,7 @@ fn answer<D: Disk>(
 ) -> Result<(), Status>
     requires open { IsOpen (D.seen disk.old) store.old }
     ensures says { Step (disk_verdict (ended result)) (D.seen disk.old) (D.seen disk.new)
-        (SaysHeld (λ history. command_brings history (question_command question.now)) store.old.records store.new.records text.new.bytes result) }
+        (SaysOpen (λ history. command_brings history (question_command question.now)) store.old.records store.new.records text.new.bytes result) }
     ensures open { OnOk result (IsOpen (D.seen disk.new) store.new) }
     ensures status { IfErr result (IsApplyStop (D.seen disk.old).tells) }
 {
@@ -72,7 +72,7 @@ fn show_rows<D: Disk>(
     requires empty { text.old.bytes ≡ [] }
     requires open { IsOpen (D.seen disk.old) store.old }
     ensures says { Step (disk_verdict (ended result)) (D.seen disk.old) (D.seen disk.new)
-        (SaysHeld (λ history. command_brings history command.now) store.old.records store.new.records text.new.bytes result) }
+        (SaysOpen (λ history. command_brings history command.now) store.old.records store.new.records text.new.bytes result) }
     ensures open { OnOk result (IsOpen (D.seen disk.new) store.new) }
     ensures status { IfErr result (IsApplyStop (D.seen disk.old).tells) }
 {
@@ -93,7 +93,7 @@ fn do_command<D: Disk>(
     requires empty { text.old.bytes ≡ [] }
     requires open { IsOpen (D.seen disk.old) store.old }
     ensures says { Step (disk_verdict (ended result)) (D.seen disk.old) (D.seen disk.new)
-        (SaysHeld (λ history. command_brings history command.now) store.old.records store.new.records text.new.bytes result) }
+        (SaysOpen (λ history. command_brings history command.now) store.old.records store.new.records text.new.bytes result) }
     ensures open { OnOk result (IsOpen (D.seen disk.new) store.new) }
     ensures status { IfErr result (IsApplyStop (D.seen disk.old).tells) }
 {
@@ -124,7 +124,7 @@ fn do_line<D: Disk>(
     requires empty { text.old.bytes ≡ [] }
     requires open { IsOpen (D.seen disk.old) store.old }
     ensures says { Step (disk_verdict (ended result)) (D.seen disk.old) (D.seen disk.new)
-        (SaysHeld (λ history. meaning_brings history meant.now) store.old.records store.new.records text.new.bytes result) }
+        (SaysOpen (λ history. meaning_brings history meant.now) store.old.records store.new.records text.new.bytes result) }
     ensures open { OnOk result (IsOpen (D.seen disk.new) store.new) }
     ensures status { IfErr result (IsApplyStop (D.seen disk.old).tells) }
 {
@@ -168,7 +168,7 @@ impl Connection {
             return Err(status);
         }
         let called = take_line(&mut self.store, bare(line), &mut self.text, disk);
-        self.ended = called.err();
+        self.ended = stop_of(&called);
         called
     }
 

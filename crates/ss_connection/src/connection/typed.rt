@@ -1,12 +1,12 @@
 // Events and questions as values.
-use super::Connection;
+use super::{Connection, stop_of};
 use ss_catalog::Event;
 use ss_outside::Disk;
 use ss_program::{Question, Status, ask, stage};
 use ss_report::Reply;
 use ss_store::Store;
 
-ghost use Rattle.std.specs.Prelude.{◌≡◌, ◌×◌, IfErr, OnOk};
+ghost use Rattle.std.specs.Prelude.{◌≡◌, IfErr, OnOk};
 ghost use Rattle.ss_catalog.specs.Events.{IsInTime};
 ghost use Rattle.ss_command.specs.declared.command.Command.TheVariants.{Do};
 ghost use Rattle.ss_connection.specs.Calls.{AppliesHeld, Called, SealsHeld, StagesHeld};
@@ -60,7 +60,7 @@ impl Connection {
             return Err(status);
         }
         let staged = stage(&mut self.store, event, disk);
-        self.ended = staged.err();
+        self.ended = stop_of(&staged);
         staged
     }
 
@@ -74,7 +74,7 @@ impl Connection {
             return Err(status);
         }
         let sealed = seal_store(&mut self.store, disk);
-        self.ended = sealed.err();
+        self.ended = stop_of(&sealed);
         sealed
     }
 
@@ -89,7 +89,7 @@ impl Connection {
             return Err(status);
         }
         let applied = apply_to_store(&mut self.store, event, disk);
-        self.ended = applied.err();
+        self.ended = stop_of(&applied);
         applied
     }
 
@@ -103,7 +103,7 @@ impl Connection {
             return Err(status);
         }
         let asked = ask(&mut self.store, question, disk);
-        self.ended = asked.err();
+        self.ended = stop_of(&asked);
         asked
     }
 }
