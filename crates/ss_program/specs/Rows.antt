@@ -109,12 +109,12 @@ pub record TakesRow (parts : List StreamParts) (before after : Rows) (result : R
   pub reads : OnlyReads old new
 
 -- Where a row was taken fewer are left, and they can be taken.
-pub record RowsGoOn (before after : Rows) (parts : List StreamParts) (row : Option Reply) : Type 0 where
+pub record RowsGoOn (before after : Rows) (parts : List StreamParts) (taken : Option Reply) : Type 0 where
   pub stand : RowsStand parts after
-  pub fewer : IfSome row (λ _. count_left after parts < count_left before parts)
+  pub fewer : IfSome taken (λ _. count_left after parts < count_left before parts)
 
 -- A row was taken that needs no disk.
-pub record TakesHeld (store : StoreState) (before after : Rows) (row : Option Reply) : Type 0 where
+pub record TakesHeld (store : StoreState) (before after : Rows) (taken : Option Reply) : Type 0 where
   pub row : (content : List ℕ) → StoreIsIn store content → (history : History) → Stands history content →
-      IsFirstOf (Ok row) (rows_left before store.streams (state history)) (rows_left after store.streams (state history))
-  pub goes_on : RowsGoOn before after store.streams row
+      IsFirstOf (Ok taken) (rows_left before store.streams (state history)) (rows_left after store.streams (state history))
+  pub goes_on : RowsGoOn before after store.streams taken

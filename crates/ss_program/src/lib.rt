@@ -10,7 +10,7 @@ mod cursors;
 mod frames;
 mod generate;
 mod listing;
-mod refuse;
+mod refusing;
 mod replies;
 mod rows;
 mod running;
@@ -28,7 +28,7 @@ mod values;
 mod windows;
 
 pub use answer::{Question, ask, show};
-pub use refuse::refuse;
+pub use refusing::refuse;
 pub use rows::Rows;
 pub use running::{LONGEST_INPUT, run};
 pub use sending::send;

@@ -1,6 +1,6 @@
 use Rattle.ss_program.proofs.Common.{state, step-as}
 use Rattle.ss_program.proofs.AnswerLemmas.{Stands-only_replies}
-use Rattle.ss_program.proofs.answer.read.Goals as goal
+use Rattle.ss_program.proofs.windows.read.Goals as goal
 
 pub returns-in-Ok-clause-reads : goal.returns-in-Ok-clause-reads
 returns-in-Ok-clause-reads g c = step-as c.in-Ok.ensures.shows (λ shows. record {

@@ -1,5 +1,5 @@
 use Rattle.ss_program.proofs.SendLemmas.{SaysLine-sent}
-use Rattle.ss_program.proofs.refuse.say.Goals as goal
+use Rattle.ss_program.proofs.refusing.say.Goals as goal
 
 pub returns : goal.returns
 returns g c =
