@@ -1,11 +1,12 @@
 -- What showing a command leaves: its replies are sent one after another, and those that are left go on to be sent.
 use Rattle.ss_program.proofs.Common.{◌≡◌, ◌∙◌, ℕ, ◌<◌, ◌++◌, List, [], ◌∷◌, length, Option, None, Some, refl, sym, ap, arith, append-nil, append_assoc}
 use Rattle.ss_program.proofs.Common.{flat_map, flat_map-append, first_that_applies, is_some, not, Unknown, Command, Do, Ask, Certify, Last, Values, Windows}
-use Rattle.ss_program.proofs.Common.{evidence_in, head_of, refuses_query, refuses_reading, refuses_series, refuses_values, row_count, Refusal, Stream, state}
-use Rattle.ss_program.proofs.Common.{stream_named, said_line, Reply, Refused, SeriesHead, WindowsHead, ValuesHead, ListHead, HasRows, Brought, History}
+use Rattle.ss_program.proofs.Common.{evidence_in, head_of, refuses_query, refuses_series, refuses_values, row_count, End, Query, Refusal, Stream}
+use Rattle.ss_program.proofs.Common.{state, stream_named, said_line, Reply, Refused, SeriesHead, WindowsHead, ValuesHead, ListHead, HasRows, Brought, History}
 use Rattle.ss_program.proofs.Common.{certified, command_brings, only_replies, series_rows, stream_rows, text_said, unless_refused, value_rows, values_shown}
 use Rattle.ss_program.proofs.Common.{window_rows, windows_shown, values_between, appended, AppendsLess}
 use Rattle.ss_command.specs.declared.command.Command.TheVariants.{Series as AskRows, List as ListAll}
+use Rattle.ss_model.specs.Refusals.{refuses_reading}
 use Rattle.ss_program.proofs.AnswerLemmas.{one_reply-some}
 use Rattle.ss_program.proofs.CertifyLemmas.{evidence-known, head-some}
 use Rattle.ss_program.proofs.SendLemmas.{AppendsLess-after, AppendsLess-none, appended-appended, appended-nil}
@@ -17,20 +18,20 @@ use Rattle.ss_program.specs.Certifying.{sides_told}
 pub record IsSaidBefore (speaker : Option ℕ) (all left : List Reply) (before held : Option (List ℕ)) : Type 0 where
   pub sent : List Reply
   pub split : all ≡ sent ++ left
-  pub held : held ≡ appended before (flat_map (said_line speaker) sent)
+  pub is : held ≡ appended before (flat_map (said_line speaker) sent)
 
 module _ (speaker : Option ℕ) (all : List Reply) (before : Option (List ℕ)) where
   -- none was sent yet
   pub said-none : IsSaidBefore speaker all all before before
-  said-none = record { sent = []; split = refl; held = sym (appended-nil before) }
+  said-none = record { sent = []; split = refl; is = sym (appended-nil before) }
 
   -- one more was sent
   pub said-more : (left after : List Reply) (reply : Reply) (held now : Option (List ℕ)) → left ≡ reply ∷ after →
       IsSaidBefore speaker all left before held → now ≡ appended held (said_line speaker reply) → IsSaidBefore speaker all after before now
-  said-more left after reply held now first was is = record {
+  said-more left after reply held now first was now_is = record {
     sent = was.sent ++ reply ∷ [];
     split = was.split ∙ ap (λ rs. was.sent ++ rs) first ∙ sym (append_assoc was.sent (reply ∷ []) after);
-    held = is ∙ ap (λ o. appended o (said_line speaker reply)) was.held
+    is = now_is ∙ ap (λ o. appended o (said_line speaker reply)) was.is
         ∙ appended-appended before (flat_map (said_line speaker) was.sent) (said_line speaker reply)
         ∙ ap (λ bs. appended before bs) (ap (λ bs. flat_map (said_line speaker) was.sent ++ bs) (sym (append-nil (said_line speaker reply)))
         ∙ sym (flat_map-append (said_line speaker) was.sent (reply ∷ [])));
@@ -43,7 +44,7 @@ module _ (speaker : Option ℕ) (all : List Reply) (before : Option (List ℕ)) 
   said-less left after reply held now first was less =
       rw (sym (flat_map-append (said_line speaker) was.sent (reply ∷ after))
       ∙ ap (λ rs. flat_map (said_line speaker) rs) (sym (was.split ∙ ap (λ rs. was.sent ++ rs) first))) at
-      (AppendsLess-after before held now (flat_map (said_line speaker) was.sent) (said_line speaker reply) (flat_map (said_line speaker) after) was.held less)
+      (AppendsLess-after before held now (flat_map (said_line speaker) was.sent) (said_line speaker reply) (flat_map (said_line speaker) after) was.is less)
 
   -- one wasn't read that was left
   pub said-unread : (left : List Reply) (held : Option (List ℕ)) → 0 < length left → IsSaidBefore speaker all left before held →
@@ -56,7 +57,7 @@ module _ (speaker : Option ℕ) (all : List Reply) (before : Option (List ℕ)) 
   pub said-all : (left : List Reply) (held : Option (List ℕ)) → left ≡ [] → IsSaidBefore speaker all left before held →
       held ≡ appended before (flat_map (said_line speaker) all)
   said-all left held none was =
-      was.held ∙ ap (λ rs. appended before (flat_map (said_line speaker) rs)) (sym (was.split ∙ ap (λ rs. was.sent ++ rs) none ∙ append-nil was.sent))
+      was.is ∙ ap (λ rs. appended before (flat_map (said_line speaker) rs)) (sym (was.split ∙ ap (λ rs. was.sent ++ rs) none ∙ append-nil was.sent))
 
 -- ---- a command that has rows has a reply
 
@@ -76,7 +77,7 @@ module _ (speaker : Option ℕ) where
   values-some from to o is =
       let values = values_between is.0.landmarks from to in rw is.1 (head-some speaker (ValuesHead (length values)) (value_rows values))
 
-  certificate-some : (streams : List Stream) (query : _) (end : _) → refuses_query streams query ≡ None →
+  certificate-some : (streams : List Stream) (query : Query) (end : End) → refuses_query streams query ≡ None →
       0 < length (text_said speaker (only_replies (certified (evidence_in streams query end))))
   certificate-some streams query end none =
       let known = evidence-known streams query end none in rw known.1 (head-some speaker (head_of known.0) (sides_told known.0))
