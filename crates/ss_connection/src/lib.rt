@@ -6,6 +6,5 @@ mod connection;
 mod laws;
 mod text;
 
-pub use connection::Connection;
+pub use connection::{Connection, Taken};
 pub use laws::{calls_say_what_a_run_says, typed_calls_do_what_lines_say};
-pub use text::Text;

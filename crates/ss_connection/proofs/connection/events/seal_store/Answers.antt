@@ -2,7 +2,7 @@ use Rattle.ss_connection.proofs.HoldsLemmas.{Seals-held}
 use Rattle.ss_program.proofs.Common.{◌∙◌, Err, Ok, sym, shown-sealed}
 use Rattle.ss_program.specs.declared.status.Status.TheVariants.{DiskFault}
 use Rattle.ss_program.proofs.StepLemmas.{step-so}
-use Rattle.ss_connection.proofs.connection.typed.seal_store.Goals as goal
+use Rattle.ss_connection.proofs.connection.events.seal_store.Goals as goal
 
 pub returns-in-Ok-clause-seals : goal.returns-in-Ok-clause-seals
 returns-in-Ok-clause-seals g c =

@@ -1,7 +1,7 @@
 use Rattle.ss_connection.proofs.HoldsLemmas.{Brings-after, Stages-held}
 use Rattle.ss_program.proofs.Common.{◌≡◌, ◌++◌, Err, Ok, rules, the_event, command_brings, Do}
 use Rattle.ss_program.proofs.StepLemmas.{step-so, step-told}
-use Rattle.ss_connection.proofs.connection.typed.apply_to_store.Goals as goal
+use Rattle.ss_connection.proofs.connection.events.apply_event.Goals as goal
 
 pub returns-in_err-reply-clause-applies : goal.returns-in_err-reply-clause-applies
 returns-in_err-reply-clause-applies g c =
