@@ -9,7 +9,7 @@ use Rattle.ss_store.specs.Applied.{OpensStore}
 use Rattle.ss_store.specs.Errors.{verdict_of_opening}
 use Rattle.ss_store.specs.declared.error.OpenError.TheVariants as opening
 use Rattle.ss_program.proofs.Common.{[], Bool, IsDiskStop, arith, common_steps, append-nil, at_start, of_content, reads-none, shown-sealed, IsSealed, IsTrue, KnowsNow, OpenError, Stands}
-use Rattle.ss_program.proofs.Common.{◌≡◌, ◌∙◌, None, Some, Ok, Err, IfErr, OnOk, Option, Result, refl, sym, DiskView, Told, Step, IsServing, IsApplyStop}
+use Rattle.ss_program.proofs.Common.{◌≡◌, None, Some, Ok, Err, IfErr, OnOk, Result, refl, sym, DiskView, Told, Step, IsServing, IsApplyStop}
 use Rattle.ss_program.proofs.Common.{disk_verdict, ended, IsOpen, StoreState, on_ok_weaker}
 
 -- one that has ended answers why

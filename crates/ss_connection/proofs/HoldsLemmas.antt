@@ -1,11 +1,11 @@
 -- What a connection holds, from call to call.
-use Rattle.ss_connection.specs.Calls.{Adds, AppliesHeld, Brings, IsWhole, OfHeld, SaysHeld, SealsHeld, StagesHeld}
+use Rattle.ss_connection.specs.Calls.{Adds, Brings, SealsHeld, StagesHeld}
 use Rattle.ss_connection.specs.Holds.{Holds}
 use Rattle.ss_program.specs.declared.status.Status.{Status}
-use Rattle.ss_program.proofs.Common.{◌≡◌, ◌∙◌, ◌⊎◌, ⊎_elim, ◌+◌, ◌≤◌, ◌++◌, ◌∷◌, [], ℕ, List, None, Ok, Err, OnOk, Result, ap, append_assoc, append-nil, arith}
+use Rattle.ss_program.proofs.Common.{◌≡◌, ◌⊎◌, ⊎_elim, ◌+◌, ◌++◌, [], ℕ, List, None, Ok, Err, OnOk, Result, ap, append_assoc, append-nil, arith}
 use Rattle.ss_program.proofs.Common.{Brought, Happened, History, IsShort, KnowsNow, LeavesOnly, NothingPending, RecordsState, SealsHistory, StagesBrought, Stands}
-use Rattle.ss_program.proofs.Common.{StandsAround, StandsForFirst, StandsShort, Told, TurnsHistory, history_after, inl, inr, joined, length, length-append}
-use Rattle.ss_program.proofs.Common.{now, on_ok_weaker, refl, shown_by, sym, take, take-append-add, take-append-le, take_all, the_event, weaker, Reply, Failed}
+use Rattle.ss_program.proofs.Common.{StandsAround, StandsForFirst, StandsShort, Told, TurnsHistory, history_after, joined, length, length-append}
+use Rattle.ss_program.proofs.Common.{now, on_ok_weaker, shown_by, sym, take, take-append-add, take-append-le, take_all, the_event, weaker, Reply}
 use Rattle.ss_program.proofs.Common.{OnlyReads, of_content, read_leaves, nothing_pending-same}
 
 module _ (history : History) (events more : List Happened) (image : List ℕ) where
@@ -88,14 +88,14 @@ pub Stages-held : {brought : History → Brought} {was is : RecordsState} {old n
     StagesBrought brought was is result old new → StagesHeld brought was is result old new
 Stages-held {brought = brought} result knows stages = record {
   each = λ history staged held.
-    let here = brought (history ++ staged) in
-    let more = the_event here.event in (
-      turns-adds result result (StandsAround (history ++ staged) here) (history_after (history ++ staged) here) (λ X has. has) held knows
-          (append_assoc history staged more)
-          (λ image. ⊎_elim (λ before. first-more history staged more image (first-all history staged image before))
-          (λ then. first-all history (staged ++ more) image (rw append_assoc at then))) (stages.turns (history ++ staged)),
-      stages.reply (history ++ staged) held.shown,
-    );
+      let here = brought (history ++ staged) in
+      let more = the_event here.event in (
+        turns-adds result result (StandsAround (history ++ staged) here) (history_after (history ++ staged) here) (λ X has. has) held knows
+            (append_assoc history staged more)
+            (λ image. ⊎_elim (λ before. first-more history staged more image (first-all history staged image before))
+            (λ then. first-all history (staged ++ more) image (rw append_assoc at then))) (stages.turns (history ++ staged)),
+        stages.reply (history ++ staged) held.shown,
+      );
 }
 
 -- what is staged comes to the disk
@@ -104,10 +104,10 @@ pub Seals-held : {T E : Type 0} {was is : RecordsState} {old new : Told} (step :
     SealsHistory was is step old new → SealsHeld was is result old new
 Seals-held {was = was} {is = is} {old = old} {new = new} step result keeps knows same seals = record {
   each = λ history staged held.
-    let adds : Adds history staged [] is old new result =
-    turns-adds step result (Stands (history ++ staged)) (history ++ staged) keeps held knows (ap (λ es. history ++ es) (sym (append-nil staged)))
-    (λ image stands. rw append-nil (first-all history staged image stands)) (seals (history ++ staged)) in
-    rw append-nil at (Brings-sealed result same adds);
+      let adds : Adds history staged [] is old new result =
+      turns-adds step result (Stands (history ++ staged)) (history ++ staged) keeps held knows (ap (λ es. history ++ es) (sym (append-nil staged)))
+      (λ image stands. rw append-nil (first-all history staged image stands)) (seals (history ++ staged)) in
+      rw append-nil at (Brings-sealed result same adds);
 }
 
 -- a run before it

@@ -8,14 +8,14 @@ use Rattle.ss_command.specs.Lines.{ended_lines, is_line_end, lines, lines_so_far
 use Rattle.ss_connection.proofs.EventLemmas.{event-in-time}
 use Rattle.ss_connection.proofs.HoldsLemmas.{first-behind, first-more}
 use Rattle.ss_connection.proofs.SaysLemmas.{said-one}
-use Rattle.ss_connection.specs.Calls.{AppliesHeld, OfHeld, SaysFurther, SaysHeld, StagesHeld, bare, without_end}
+use Rattle.ss_connection.specs.Calls.{AppliesHeld, OfHeld, SaysHeld, StagesHeld, bare, without_end}
 use Rattle.ss_connection.specs.Holds.{Holds, text_left}
 use Rattle.ss_connection.specs.InTurn.{AreInTurn, AreLines, DidCall, Made, ended_line, input_of, said_in}
 use Rattle.ss_connection.specs.Typed.{event_brings}
-use Rattle.ss_program.proofs.Common.{◌≡◌, ◌∙◌, ◌++◌, ◌∷◌, [], ℕ, List, All, None, Ok, Some, OnOk, Option, ap, append_assoc, append-nil, flat_map, flat_map-append}
+use Rattle.ss_program.proofs.Common.{◌≡◌, ◌∙◌, ◌++◌, ◌∷◌, [], ℕ, List, All, None, Ok, Some, Option, ap, append_assoc, append-nil, flat_map, flat_map-append}
 use Rattle.ss_program.proofs.Common.{at_start, joined, weaker, of_content, length, map, refl, sym, IsTrue, DiskView, Event, Do, question_command}
 use Rattle.ss_program.proofs.Common.{KnowsNow, LeavesOnly, RecordsState, StandsForFirst, StoreState, Told, accepted, brings, command_brings, the_event, History}
-use Rattle.ss_program.proofs.Common.{plain_talk, text_of, report, reply_line, Reply, Command, meaning, text_brought, LINE_END, replies, Brought, meaning_brings}
+use Rattle.ss_program.proofs.Common.{plain_talk, text_of, report, reply_line, Reply, Command, meaning, LINE_END, replies, meaning_brings}
 use Rattle.ss_program.proofs.Common.{history_after, line_text}
 use Rattle.ss_program.proofs.SessionLemmas.{text_of-replies}
 use Rattle.ss_program.specs.declared.answer.Question.{Question}

@@ -8,11 +8,11 @@ use Rattle.ss_connection.proofs.EventLemmas.{event-in-time, event-refused, in-ti
 use Rattle.ss_connection.proofs.HoldsLemmas.{first-more}
 use Rattle.ss_connection.specs.Calls.{Adds, OfHeld, SealsHeld}
 use Rattle.ss_connection.specs.Holds.{Holds}
-use Rattle.ss_connection.specs.Many.{AppliesMany, AreAccepted, IsRefusedNext, StagesMany, TakesFirst, after_first, values_at}
+use Rattle.ss_connection.specs.Many.{AppliesMany, AreAccepted, StagesMany, TakesFirst, after_first, values_at}
 use Rattle.ss_connection.specs.Typed.{event_brings, is_in_time}
 use Rattle.ss_connection.specs.declared.connection.many.Taken.{Taken}
 use Rattle.ss_program.proofs.AnswerLemmas.{brings-accepted, brings-refused}
-use Rattle.ss_program.proofs.Common.{◌≡◌, ◌∙◌, ◌⊎◌, ⊎_elim, inl, inr, ◌+◌, ◌<◌, ◌≤◌, ◌++◌, ◌∷◌, [], ℕ, ℤ, List, None, Some, Ok, Err, Option, Result, ap, append_assoc, append-nil}
+use Rattle.ss_program.proofs.Common.{◌≡◌, ◌∙◌, ◌⊎◌, ⊎_elim, inl, inr, ◌+◌, ◌<◌, ◌++◌, ◌∷◌, [], ℕ, ℤ, List, None, Some, Ok, Err, Option, Result, ap, append_assoc, append-nil}
 use Rattle.ss_program.proofs.Common.{arith, at_start, drop, drop-cons, drop_all, joined, length, map, map-append, min, of_content, refl, sym, suc, take, take-append-drop, weaker, zero}
 use Rattle.ss_program.proofs.Common.{Ack, Brought, Event, Happened, History, KnowsNow, LeavesOnly, RecordsState, Refusal, Refused, Reply, StandsForFirst, Told, Value}
 use Rattle.ss_program.proofs.Common.{ack_of, added, command_brings, event_name, refused, refuses, state, the_event}
@@ -20,7 +20,7 @@ use Rattle.ss_program.specs.declared.status.Status.{Status}
 use Rattle.ss_report.specs.declared.reply.Reply.TheVariants.{Done}
 use Rattle.ss_catalog.specs.declared.refusal.Refusal.TheVariants.{Syntax}
 use Rattle.ss_command.specs.declared.command.Command.TheVariants.{Do}
-use Rattle.std.proofs.Common.{true, false}
+use Rattle.std.proofs.Common.{false}
 
 -- as many events as there are both times and values, each at its place
 pub length-values : (name times : List ℕ) (values : List ℤ) → length (values_at name times values) ≡ min (length times) (length values)

@@ -4,15 +4,15 @@ use Rattle.std.proofs.lemmas.Result.{IfOk-weaker}
 use Rattle.ss_connection.proofs.HoldsLemmas.{Adds-read, stands-open}
 use Rattle.ss_connection.proofs.SaysLemmas.{Says-read}
 use Rattle.ss_connection.specs.Calls.{SaysFurther, SaysOpen}
-use Rattle.ss_connection.specs.Holds.{CanBeTaken, Holds, text_left}
+use Rattle.ss_connection.specs.Holds.{CanBeTaken, text_left}
 use Rattle.ss_connection.specs.Showing.{Fills}
 use Rattle.ss_journal.specs.Kept.{IsSealed}
 use Rattle.ss_parts.specs.declared.parts.StreamParts.{StreamParts}
 use Rattle.ss_program.proofs.Common.{◌≡◌, ◌∙◌, ◌++◌, ◌∷◌, [], ℕ, List, None, Some, Ok, Err, OnOk, Option, Result, ap, append_assoc, flat_map, on_ok_weaker, reads-joined, refl}
-use Rattle.ss_program.proofs.Common.{reads-none, shown-sealed, state, sym, Command, DiskView, HasRows, History, IsOpen, KnowsNow, OnlyReads, ReadsAnswer, Reply}
+use Rattle.ss_program.proofs.Common.{reads-none, shown-sealed, sym, Command, DiskView, HasRows, IsOpen, KnowsNow, ReadsAnswer, Reply}
 use Rattle.ss_program.proofs.Common.{Stands, StoreState, Told, command_brings, reply_line, shown_by, text_brought}
 use Rattle.ss_program.proofs.AnswerLemmas.{rows-event}
-use Rattle.ss_program.specs.Rows.{AreBrought, IsFirstOf, RowsStand, rows_left}
+use Rattle.ss_program.specs.Rows.{AreBrought, RowsStand}
 use Rattle.ss_program.specs.declared.rows.Rows.{Rows}
 use Rattle.ss_program.specs.declared.status.Status.{Status}
 
@@ -55,9 +55,9 @@ Says-further {was = was} {is = is} {after = after} {old = old} {new = new} rows 
       let shows = shown-sealed was.records.journal old.content sealed in
       let stands : Stands (history ++ staged) old.content = rw shows at held.shown in (
         Adds-read result knows held (on_ok_weaker result (λ (is_shown : shown_by is.records new.content ≡ new.content).
-        is_shown ∙ fills.reads.same.content ∙ sym shows) same) fills.reads,
+            is_shown ∙ fills.reads.same.content ∙ sym shows) same) fills.reads,
         IfOk-weaker result _ _ (λ left (is_left : text_left (Some rows) was.streams (history ++ staged) ≡ after ++ text_left left was.streams (history ++ staged)).
-        rw streams is_left) (fills.says (history ++ staged) stands),
+            rw streams is_left) (fills.says (history ++ staged) stands),
       );
 }
 

@@ -1,11 +1,10 @@
 -- What is said to a line, and what the line does.
-use Rattle.ss_connection.proofs.HoldsLemmas.{Brings-read, first-behind, first-more, shows-open, stands-open}
-use Rattle.ss_connection.specs.Calls.{AppliesHeld, Brings, SaysFurther, SaysHeld, SaysOpen, SealsHeld}
+use Rattle.ss_connection.proofs.HoldsLemmas.{Brings-read, first-behind, first-more, shows-open}
+use Rattle.ss_connection.specs.Calls.{AppliesHeld, Brings, SaysHeld, SaysOpen, SealsHeld}
 use Rattle.ss_connection.specs.Holds.{Holds, text_left}
-use Rattle.ss_connection.specs.Showing.{Fills}
-use Rattle.ss_program.proofs.Common.{◌≡◌, ◌∙◌, ◌++◌, ◌∷◌, [], ℕ, List, None, Some, Ok, Err, OnOk, Option, Result, ap, append_assoc, append-nil, joined, on_ok_weaker}
-use Rattle.ss_program.proofs.Common.{sym, Brought, History, IsOneReply, KnowsNow, LeavesOnly, OnlyReads, ReadsAnswer, RecordsState, Reply, StandsForFirst, StoreState}
-use Rattle.ss_program.proofs.Common.{Told, flat_map, reply_line, shown_by, text_brought, the_event, weaker, history_after}
+use Rattle.ss_program.proofs.Common.{◌≡◌, ◌∙◌, ◌++◌, ◌∷◌, [], ℕ, List, None, Ok, Err, OnOk, Option, Result, ap, append_assoc, append-nil, joined, on_ok_weaker}
+use Rattle.ss_program.proofs.Common.{sym, Brought, History, IsOneReply, KnowsNow, OnlyReads, ReadsAnswer, RecordsState, Reply, StandsForFirst, StoreState}
+use Rattle.ss_program.proofs.Common.{Told, flat_map, reply_line, shown_by, text_brought, the_event, weaker}
 use Rattle.ss_program.specs.declared.rows.Rows.{Rows}
 use Rattle.std.specs.Prelude.{IfOk}
 use Rattle.ss_program.specs.declared.status.Status.{Status}
@@ -28,8 +27,7 @@ module _ {brought : History → Brought} {was is : StoreState} {said : List ℕ}
     each = λ history held.
         let did = applies.each history [] held in
         let result : Result Reply Status = Ok reply in
-        let brings : Brings history (the_event (brought history).event) is.records old new result = rw append-nil at did.0 in
-        (
+        let brings : Brings history (the_event (brought history).event) is.records old new result = rw append-nil at did.0 in (
           record { holds = brings.holds; any_moment = brings.any_moment },
           said-one (brought history) reply says (rw append-nil at did.1) ∙ sym (append-nil said),
         );

@@ -7,7 +7,7 @@ use Rattle.ss_connection.specs.Calls.{OfHeld}
 use Rattle.ss_connection.specs.Holds.{Holds}
 use Rattle.ss_connection.specs.Typed.{event_brings}
 use Rattle.ss_connection.specs.declared.connection.many.Taken.{Taken}
-use Rattle.ss_model.specs.History.{Happened, added}
+use Rattle.ss_model.specs.History.{added}
 use Rattle.ss_model.specs.State.{state}
 use Rattle.ss_model.specs.Steps.{ack_of}
 use Rattle.ss_outside.specs.Crash.{LeavesOnly}

@@ -26,11 +26,7 @@ fn is_in_time(event: &Event) -> bool
 }
 
 /// Stages an event, whatever its time is.
-pub fn stage_event<D: Disk>(
-    store: &mut Store,
-    event: &Event,
-    disk: &mut D,
-) -> Result<Reply, Status>
+pub fn stage_event<D: Disk>(store: &mut Store, event: &Event, disk: &mut D) -> Result<Reply, Status>
     requires { IsServing (D.seen disk.old) store.old }
     ensures stages { Step (disk_verdict (ended result)) (D.seen disk.old) (D.seen disk.new)
         (StagesHeld (λ history. event_brings history event.now) store.old.records store.new.records result) }
@@ -58,11 +54,7 @@ pub fn seal_store<D: Disk>(store: &mut Store, disk: &mut D) -> Result<(), Status
 }
 
 /// Does an event, and brings it to the disk with all that are staged.
-pub fn apply_event<D: Disk>(
-    store: &mut Store,
-    event: &Event,
-    disk: &mut D,
-) -> Result<Reply, Status>
+pub fn apply_event<D: Disk>(store: &mut Store, event: &Event, disk: &mut D) -> Result<Reply, Status>
     requires { IsServing (D.seen disk.old) store.old }
     ensures applies { Step (disk_verdict (ended result)) (D.seen disk.old) (D.seen disk.new)
         (AppliesHeld (λ history. event_brings history event.now) store.old.records store.new.records result) }

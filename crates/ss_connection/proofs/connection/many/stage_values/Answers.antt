@@ -1,4 +1,3 @@
-use Rattle.ss_catalog.specs.declared.event.Event.TheVariants.{Value}
 use Rattle.ss_connection.proofs.ManyLemmas.{HasStaged-more, HasStaged-none, StagesMany-refused, StagesMany-stopped, StagesSome, TakesFirst-all}
 use Rattle.ss_connection.proofs.ManyLemmas.{length-values, name-at, other-reply}
 use Rattle.ss_connection.specs.Calls.{OfHeld}
@@ -7,7 +6,7 @@ use Rattle.ss_connection.specs.Many.{TakesFirst, values_at}
 use Rattle.std.proofs.Common.{pos}
 use Rattle.std.proofs.lemmas.Option.{get_or_from_slice_get}
 use Rattle.ss_connection.specs.declared.connection.many.Taken.{Taken}
-use Rattle.ss_program.proofs.Common.{◌≡◌, ◌∙◌, ◌<◌, ◌++◌, ◌∷◌, Err, Ok, arith, length, map, refl, rules, step-as, step-none, step-then, sym, take, added, LeavesOnly, Some, StandsForFirst}
+use Rattle.ss_program.proofs.Common.{◌≡◌, ◌∙◌, ◌<◌, ◌++◌, Err, arith, length, map, refl, rules, step-as, step-none, step-then, sym, take, added, LeavesOnly, Some, StandsForFirst}
 use Rattle.ss_connection.proofs.connection.many.stage_values.Goals as goal
 
 pub loop-taken-init : goal.loop-taken-init
@@ -83,8 +82,8 @@ returns-in-Refused-clause-stages g c =
     let old = (g.D.Disk.seen c.args.disk.now).told in
     let new = (g.D.Disk.seen c.stage_event.new.disk).told in
     let all : OfHeld c.args.store.now.records old (λ history staged. TakesFirst (history ++ staged) name events taken
-        × Holds history (staged ++ map added (take k events)) c.stage_event.new.store.records new
-        × LeavesOnly old new (StandsForFirst history (staged ++ map added events))) = λ history staged held.
+    × Holds history (staged ++ map added (take k events)) c.stage_event.new.store.records new
+    × LeavesOnly old new (StandsForFirst history (staged ++ map added events))) = λ history staged held.
     let so_far = some.each history staged held in
     let did = rw c.in-Refused.is at (stages.each history (staged ++ map added (take k events)) so_far.holds) in
     StagesMany-refused event so_far inside at taken r refl refl refl did in
