@@ -189,6 +189,7 @@ Says-typed event line reply means applies = record {
         record { holds = did.0.holds; any_moment = did.0.any_moment },
         said-one (brings from (bare line)) reply refl did.1 ∙ sym (append-nil (reply_line reply)),
       );
+  starves = λ history staged held. tt;
 }
 
 -- and so is the answer to a question

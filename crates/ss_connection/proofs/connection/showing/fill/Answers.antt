@@ -11,6 +11,7 @@ loop-rows-preserved g c =
     let inv = c.loop-rows.invariant in
     let taken = c.in_ok-row.ensures in
     record {
+      fits = c.add.ensures.fits;
       is_open = taken.open;
       stand = rw taken.streams taken.goes_on.stand;
       streams = taken.streams ∙ inv.streams;
@@ -18,6 +19,6 @@ loop-rows-preserved g c =
       says = λ told history stands.
           let parts = c.args.store.now.streams in
           let row = (taken.takes.told (inv.reads.tells ∙ told)).row history (rw (inv.reads.told told).same.content stands) in
-          rw c.add.ensures (fills-more _ c.loop-rows.text (rows_left c.loop-rows.rows parts (state history)) (rows_left c.next.new.self parts (state history)) c.in-Some.row
+          rw c.add.ensures.text (fills-more _ c.loop-rows.text (rows_left c.loop-rows.rows parts (state history)) (rows_left c.next.new.self parts (state history)) c.in-Some.row
           (rw inv.streams at (rw c.in-Some.is at row)) (inv.says told history stands));
     }
