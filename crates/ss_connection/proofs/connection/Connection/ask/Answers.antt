@@ -8,7 +8,7 @@ use Rattle.ss_connection.proofs.connection.Connection.ask.Goals as goal
 pub returns-clause-called : goal.returns-clause-called
 returns-clause-called g c =
     let result = c.ask-asked.result in
-    let usable = rw c.self.view_is at c.requires in
+    let usable = rw (sym c.self.view_is) at c.requires in
     let fits = (usable c.in_default.is).piece.fits in
     let did = c.ask-asked.ensures in
     let old = g.D.Disk.seen c.args.disk.now in
