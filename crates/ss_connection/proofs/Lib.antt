@@ -1,5 +1,6 @@
 mod CallLemmas
 mod EventLemmas
+mod EventRows
 mod HoldsLemmas
 mod LawLemmas
 mod ManyLemmas
