@@ -7,4 +7,6 @@ mod laws;
 mod text;
 
 pub use connection::{Connection, Taken};
-pub use laws::{calls_say_what_a_run_says, typed_calls_do_what_lines_say};
+pub use laws::{
+    batches_hold_their_events, calls_say_what_a_run_says, typed_calls_do_what_lines_say,
+};
