@@ -1,3 +1,4 @@
+mod BatchLemmas
 mod CallLemmas
 mod EventLemmas
 mod EventRows
