@@ -32,6 +32,9 @@ returns-clause-begins g c =
 
 pub returns-clause-right : goal.returns-clause-right
 returns-clause-right g c taken =
-    let w = c.in_ok-evidence.evidence in
-    (w, c.in_ok-evidence.ensures.right, ap (λ r. r ∷ c.sides_of-lines.result.items) c.head.ensures
-    ∙ ap (λ rs. head_of w ∷ rs) c.sides_of-lines.ensures)
+    let w = c.in_ok-evidence.evidence in (
+      w,
+      c.in_ok-evidence.ensures.right,
+      ap (λ r. r ∷ c.sides_of-lines.result.items) c.head.ensures
+          ∙ ap (λ rs. head_of w ∷ rs) c.sides_of-lines.ensures,
+    )
