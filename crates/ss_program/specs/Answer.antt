@@ -6,7 +6,7 @@ use Rattle.ss_command.specs.declared.command.Command.TheVariants.{Do, Ask, Last}
 use Rattle.ss_line.specs.Line.{index_of}
 use Rattle.ss_line.specs.declared.entry.At.{At}
 use Rattle.ss_model.specs.Shown.{placed_of}
-use Rattle.ss_model.specs.State.{Stream, state, stream_numbered}
+use Rattle.ss_model.specs.State.{state, stream_numbered}
 use Rattle.ss_model.specs.declared.types.Placed.{Placed}
 use Rattle.ss_outside.specs.Crash.{OnlyReads}
 use Rattle.ss_outside.specs.Disk.{DiskView, OfContent, Told}
@@ -20,7 +20,7 @@ use Rattle.ss_records.specs.Kept.{RecordsState, shown_by}
 use Rattle.ss_store.specs.Kept.{StoreIsKept, StoreState, part_numbered}
 use Rattle.ss_store.specs.Recover.{Stands}
 use Rattle.ss_program.specs.Devices.{Devices}
-use Rattle.ss_program.specs.Line.{Brought, History, command_brings, text_said, window_rows}
+use Rattle.ss_program.specs.Line.{Brought, History, command_brings, text_said}
 use Rattle.ss_program.specs.Sent.{Sends}
 use Rattle.ss_program.specs.Status.{disk_verdict, ended, sink_verdict, IsShowStop}
 use Rattle.ss_program.specs.declared.answer.Question.{Question}

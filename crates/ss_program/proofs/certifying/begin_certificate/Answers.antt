@@ -1,4 +1,4 @@
-use Rattle.ss_program.proofs.Common.{◌≡◌, ◌∙◌, ◌∷◌, sym, head_of, ap, state, reads-none, step-none, Brought}
+use Rattle.ss_program.proofs.Common.{◌∙◌, ◌∷◌, sym, head_of, ap, state, reads-none, step-none, Brought}
 use Rattle.ss_program.proofs.AnswerLemmas.{StoreIsIn-open, refuses_query-kept}
 use Rattle.ss_program.proofs.CertifyLemmas.{brings-certified, brings-refused_certify}
 use Rattle.ss_program.proofs.StepLemmas.{step-given}

@@ -1,4 +1,4 @@
-use Rattle.ss_program.proofs.Common.{◌≡◌, ◌∙◌, ◌∷◌, ◌+◌, sym, ap, arith, drop, drop_all, length-map, row_of, state, streams-kept, AllAgree-recovered, stream_rows}
+use Rattle.ss_program.proofs.Common.{arith, drop_all, length-map, row_of, state, streams-kept, AllAgree-recovered, stream_rows}
 use Rattle.ss_report.specs.declared.reply.Reply.TheVariants.{Stream as StreamRow}
 use Rattle.ss_program.proofs.RowLemmas.{drop-at, row-reply}
 use Rattle.ss_program.proofs.listing.next_stream.Goals as goal

@@ -1,4 +1,4 @@
-use Rattle.ss_program.proofs.Common.{◌≡◌, ◌∙◌, ◌∷◌, sym, ap, state, stream_numbered, WindowsHead, part_numbered, found-kept, unknown-kept, Brought, window_rows}
+use Rattle.ss_program.proofs.Common.{◌∙◌, ◌∷◌, sym, ap, state, stream_numbered, WindowsHead, part_numbered, found-kept, unknown-kept, Brought, window_rows}
 use Rattle.ss_program.proofs.Common.{windows-kept}
 use Rattle.ss_program.proofs.AnswerLemmas.{brings-unknown, brings-windows}
 use Rattle.ss_program.proofs.LeftRowLemmas.{place-first, windows-begun}
