@@ -6,6 +6,8 @@ pub mod NewestLaws
 pub mod HeardLemmas
 pub mod ConversationLemmas
 pub mod AskedRows
+pub mod AckedLemmas
+mod AckedRows
 pub mod FollowedLemmas
 pub mod ChainLemmas
 pub mod ChainRows

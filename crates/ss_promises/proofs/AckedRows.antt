@@ -1,0 +1,115 @@
+-- Worked rows of events that are acknowledged by their `ok`, whatever is said behind it, computed.
+use Rattle.ss_program.proofs.Common.{◌≡◌, ◌⊎◌, ◌∙◌, ◌≤◌, ◌++◌, ℕ, List, [], ◌∷◌, length, take, zero, suc, arith, inl, inr, lit≤, refl, map, true, false, Some, codes}
+use Rattle.ss_program.proofs.Common.{flat_map, pos, append-nil, Lines, Sessions, Frames, Follow, Each, Create, Value, exp, Happened, added, Stands, acks}
+use Rattle.ss_program.proofs.Common.{begun, steps, Talk}
+use Rattle.hex.specs.Hex.{encode_with}
+use Rattle.std.specs.Fmt.{digits}
+use Rattle.ss_catalog.specs.Names.{is_name}
+use Rattle.ss_codec.specs.Fields as Fields
+use Rattle.ss_command.specs.Grammar.{meaning}
+use Rattle.ss_command.specs.Lines.{ended_lines, unended}
+use Rattle.ss_command.specs.Words.{words}
+use Rattle.ss_fields.specs.Fields as Numbers
+use Rattle.ss_fields.specs.Words.{is_number, number_of, number_up_to, signed_of}
+use Rattle.ss_frames.specs.Frame.{frame_spelled}
+use Rattle.ss_model.specs.Refusals.{refuses}
+use Rattle.ss_model.specs.State.{state}
+use Rattle.ss_targets.specs.Windowing.{window_index}
+use Rattle.ss_promises.specs.Acked.{HoldsOks, first_line, ok_of, oks}
+
+-- lines, each with its line end
+abbrev text : List (List ℕ) → List ℕ
+text ls = flat_map (λ line. line ++ 10 ∷ []) ls
+
+-- the first line ends with its line end, and where there is none with the text
+first_line-two : first_line (text (codes "ok 0 0" ∷ codes "frame" ∷ [])) ≡ codes "ok 0 0" ++ 10 ∷ []
+first_line-two = refl
+
+first_line-one : first_line (codes "ok 0 0" ++ 10 ∷ []) ≡ codes "ok 0 0" ++ 10 ∷ []
+first_line-one = refl
+
+first_line-cut : first_line (codes "ok") ≡ codes "ok"
+first_line-cut = refl
+
+first_line-empty : first_line (10 ∷ codes "ok") ≡ 10 ∷ []
+first_line-empty = refl
+
+first_line-none : first_line [] ≡ []
+first_line-none = refl
+
+-- the `ok` of what is said, and the whole frame where frames are written, whatever its bytes are
+ok_of-forms :
+    map (λ form. ok_of form (1 ∷ 10 ∷ 2 ∷ [])) (Lines false ∷ Lines true ∷ Sessions false ∷ Sessions true ∷ Frames ∷ Follow ∷ [])
+    ≡ (1 ∷ 10 ∷ []) ∷ (1 ∷ 10 ∷ []) ∷ (1 ∷ 10 ∷ []) ∷ (1 ∷ 10 ∷ []) ∷ (1 ∷ 10 ∷ 2 ∷ []) ∷ (1 ∷ 10 ∷ []) ∷ []
+ok_of-forms = refl
+
+-- a stream and its first value
+abbrev created : Happened
+created = added (Create (codes "a") (exp 2 1 1))
+
+abbrev ten : Happened
+ten = added (Value (codes "a") 10 (pos 5))
+
+abbrev lines_of : List (List ℕ)
+lines_of = codes "create a exp 2 1 1" ∷ codes "append a 10 5" ∷ []
+
+-- To each its `ok` is said, of 7 bytes, and its frame behind it, of 135. An `ok` counts with its line end, and all that is said only with
+-- the frame.
+oks-framed : map (λ bytes. oks (begun (Lines true) []) lines_of bytes) (0 ∷ 6 ∷ 7 ∷ 141 ∷ 142 ∷ 148 ∷ 149 ∷ 284 ∷ [])
+    ≡ 0 ∷ 0 ∷ 1 ∷ 1 ∷ 1 ∷ 1 ∷ 2 ∷ 2 ∷ []
+unfolding meaning words is_number number_of number_up_to signed_of is_name state refuses window_index digits encode_with frame_spelled Fields.with_field Numbers.number_bytes
+oks-framed = refl
+
+acks-framed : map (λ bytes. acks (begun (Lines true) []) lines_of bytes) (0 ∷ 6 ∷ 7 ∷ 141 ∷ 142 ∷ 148 ∷ 149 ∷ 284 ∷ [])
+    ≡ 0 ∷ 0 ∷ 0 ∷ 0 ∷ 1 ∷ 1 ∷ 1 ∷ 2 ∷ []
+unfolding meaning words is_number number_of number_up_to signed_of is_name state refuses window_index digits encode_with frame_spelled Fields.with_field Numbers.number_bytes
+acks-framed = refl
+
+-- plain lines have one reply, and a frame that is written counts whole
+oks-plain : map (λ bytes. oks (begun (Lines false) []) lines_of bytes) (6 ∷ 7 ∷ 13 ∷ 14 ∷ []) ≡ 0 ∷ 1 ∷ 1 ∷ 2 ∷ []
+unfolding meaning words is_number number_of number_up_to signed_of is_name state refuses window_index digits
+oks-plain = refl
+
+oks-frames : map (λ bytes. oks (begun Frames []) lines_of bytes) (63 ∷ 64 ∷ 127 ∷ 128 ∷ []) ≡ 0 ∷ 1 ∷ 1 ∷ 2 ∷ []
+unfolding meaning words is_number number_of number_up_to signed_of is_name state refuses window_index frame_spelled Fields.with_field Numbers.number_bytes
+oks-frames = refl
+
+-- the same of lines of sessions, whose `ok` has its session before it
+oks-sessions : map (λ bytes. oks (begun (Sessions true) []) (codes "@3 create a exp 2 1 1" ∷ []) bytes) (9 ∷ 10 ∷ []) ≡ 0 ∷ 1 ∷ []
+unfolding meaning words is_number number_of number_up_to signed_of is_name state refuses window_index digits encode_with frame_spelled Fields.with_field Numbers.number_bytes
+oks-sessions = refl
+
+-- some first of two, from one on
+one-or_two : (j : ℕ) → 1 ≤ j → j ≤ 2 → (take j (created ∷ ten ∷ []) ≡ created ∷ []) ⊎ (take j (created ∷ ten ∷ []) ≡ created ∷ ten ∷ [])
+one-or_two zero some few = absurd (omega (arith, some))
+one-or_two (suc zero) some few = inl refl
+one-or_two (suc (suc zero)) some few = inr refl
+one-or_two (suc (suc (suc j))) some few = absurd (omega (arith, few))
+
+-- a framed run of these lines whose sink failed after 7 bytes, in the frame of the first: the image holds the first event
+held-first : (image : List ℕ) → HoldsOks Each (begun (Lines true) []) (text lines_of) (Some []) 7 image →
+    Stands (created ∷ []) image ⊎ Stands (created ∷ ten ∷ []) image
+unfolding ended_lines unended meaning words is_number number_of number_up_to signed_of is_name state refuses window_index digits encode_with frame_spelled Fields.with_field Numbers.number_bytes
+held-first image holds =
+    let some : 1 ≤ holds.j = holds.acked in
+    let few : holds.j ≤ 2 = holds.few in
+    elim (one-or_two holds.j some few) [
+      | inl one ↦ inl (rw one at holds.stands.0)
+      | inr both ↦ inr (rw both at holds.stands.0)
+    ]
+
+-- and an image with the first event alone does
+first-held : (image : List ℕ) → Stands (created ∷ []) image → HoldsOks Each (begun (Lines true) []) (text lines_of) (Some []) 7 image
+unfolding ended_lines unended meaning words is_number number_of number_up_to signed_of is_name state refuses window_index digits encode_with frame_spelled Fields.with_field Numbers.number_bytes
+first-held image stands = record {
+  j = 1;
+  stands = (stands, tt);
+  few = lit≤ tt;
+  acked = lit≤ tt;
+  at_most = λ each. lit≤ tt;
+  read = text lines_of;
+  others = [];
+  are = append-nil (text lines_of);
+  rest = refl;
+  within = lit≤ tt;
+}
