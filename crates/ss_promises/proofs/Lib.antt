@@ -9,6 +9,8 @@ pub mod AskedRows
 pub mod AckedLemmas
 mod AckedRows
 pub mod FollowedLemmas
+pub mod BrokenLemmas
+mod BrokenRows
 pub mod ChainLemmas
 pub mod ChainRows
 pub mod NameRows
@@ -19,4 +21,4 @@ pub mod AlikeLemmas
 pub mod AlikeText
 pub mod OwnedLemmas
 pub mod LengthLemmas
-mod PrimaryRows
+pub mod PrimaryRows

@@ -57,7 +57,7 @@ history-readings =
     })
 
 -- it is a primary, and it isn't one with a drop behind, with its value old, or where the value comes first
-primary-readings : IsPrimary (created ∷ ten ∷ [])
+pub primary-readings : IsPrimary (created ∷ ten ∷ [])
 primary-readings = record { is_history = history-readings; undropped = refl; values = refl }
 
 primary-dropped : IsPrimary (created ∷ ten ∷ added (Drop a) ∷ []) → ⊥
