@@ -4,7 +4,8 @@ use Rattle.ss_program.proofs.Common.{refl, sym, ap, append_assoc, append-nil, ar
 use Rattle.ss_program.proofs.Common.{length-append, take-append-drop, Event, Happened, Told, acks, the_event, HoldsBy, NotBegun, Reports, Stopped, steps_within}
 use Rattle.ss_program.proofs.Common.{IsAlone, StopsAmong, StandsBeyond, appended, accepted, after_line, after_lines, report_so_far, text_of, Talk, turn_of, Form}
 use Rattle.ss_program.proofs.Common.{Lines, Sessions, Frames, Follow, Sealing, Each, Serves}
-use Rattle.ss_program.proofs.Common.{steps, steps_so_far}
+use Rattle.ss_program.proofs.Common.{steps, steps_so_far, cond, Turn, after_turn}
+use Rattle.ss_program.proofs.OverLemmas.{over_slots, turn-over}
 use Rattle.ss_program.specs.declared.running.TheConstants.{LONGEST_INPUT}
 use Rattle.ss_program.specs.declared.status.Status.{Status}
 use Rattle.ss_program.specs.declared.status.Status.TheVariants.{DiskFault, Done, InputLimit, OutOfMemory, RecordChanged, RefusedStore, SinkFault, SourceFault, Usage}
@@ -120,6 +121,15 @@ oks-more talk (line ∷ ls) few many less =
 pub oks-nothing : (talk : Talk) (ls : List (List ℕ)) → oks talk ls 0 ≡ 0
 oks-nothing talk ls = oks-none talk ls 0 refl
 
+-- however many slots the file used before
+pub oks-over : (used : Option ℕ) (talk : Talk) (ls : List (List ℕ)) (bytes : ℕ) → oks (over_slots used talk) ls bytes ≡ oks talk ls bytes
+oks-over used talk [] bytes = refl
+oks-over used talk (line ∷ ls) bytes =
+    ap (λ (t : Turn). cond (nat_le (length (ok_of talk.form t.says)) bytes)
+    (length (the_event t.event) + oks (after_turn (over_slots used talk) t) ls (bytes - length t.says)) 0) (turn-over used talk line)
+    ∙ ap (λ n. cond (nat_le (length (ok_of talk.form (turn_of talk line).says)) bytes) (length (the_event (turn_of talk line).event) + n) 0)
+    (oks-over used (after_line talk line) ls (bytes - length (turn_of talk line).says))
+
 -- where the bytes are the text of some first lines, they are those whose replies are whole
 oks-acks : (talk : Talk) (done others : List (List ℕ)) (bytes : ℕ) → bytes ≡ length (text_of talk done) →
     oks talk (done ++ others) bytes ≡ acks talk (done ++ others) bytes
@@ -143,11 +153,11 @@ front-one talk (line ∷ []) left one =
     omega (arith, event-one (turn_of talk line).event, length-append (the_event (turn_of talk line).event) [])
 front-one talk (line ∷ next ∷ done) left one = absurd (omega (arith, one))
 
-module _ (sealing : Sealing) (talk : Talk) (input : List ℕ) (left : Option (List ℕ)) (bytes : ℕ) (image : List ℕ) where
+module _ (sealing : Sealing) (talk : Talk) (input : List ℕ) (left : Option (List ℕ)) (bytes : ℕ) (status : Status) (image : List ℕ) where
   -- the bytes are the text of some first lines
-  HoldsOks-exact : (status : Status) (done others : List (List ℕ)) → HoldsBy sealing talk input left bytes status image →
-      steps talk.form input ≡ done ++ others → bytes ≡ length (text_of talk done) → HoldsOks sealing talk input left bytes image
-  HoldsOks-exact status done others kept are is =
+  HoldsOks-exact : (done others : List (List ℕ)) → HoldsBy sealing talk input left bytes status image →
+      steps talk.form input ≡ done ++ others → bytes ≡ length (text_of talk done) → HoldsOks sealing talk input left bytes status image
+  HoldsOks-exact done others kept are is =
       let same : oks talk (steps talk.form input) bytes ≡ acks talk (steps talk.form input) bytes = rw are (oks-acks talk done others bytes is) in
       record {
         j = kept.4.j;
@@ -155,6 +165,8 @@ module _ (sealing : Sealing) (talk : Talk) (input : List ℕ) (left : Option (Li
         few = kept.4.few;
         acked = omega (arith, same, kept.4.acked);
         at_most = λ each. omega (arith, same, kept.4.at_most each);
+        all = kept.4.all;
+        starved = λ starved. kept.4.starved starved ∙ sym same;
         read = kept.0;
         others = kept.1;
         are = kept.2;
@@ -163,11 +175,12 @@ module _ (sealing : Sealing) (talk : Talk) (input : List ℕ) (left : Option (Li
       }
 
   -- the run stopped among some lines
-  HoldsOks-among : (ls others : List (List ℕ)) (taken rest : List ℕ) (before after : Option (List ℕ)) (disk : Told) (status : Status)
+  HoldsOks-among : (ls others : List (List ℕ)) (taken rest : List ℕ) (before after : Option (List ℕ)) (disk : Told)
       (at : StopsAmong sealing talk ls before after disk status) → steps talk.form input ≡ ls ++ others → taken ++ rest ≡ input → left ≡ Some rest →
       ls ≡ steps_within talk.form taken rest → bytes ≡ length (text_of talk at.out) + at.bytes → disk.may_leave image →
-      HoldsOks sealing talk input left bytes image
-  HoldsOks-among ls others taken rest before after disk status at are all is_left within is may =
+      (status ≡ Done → ⊥) → (status ≡ OutOfMemory → ⊥) →
+      HoldsOks sealing talk input left bytes status image
+  HoldsOks-among ls others taken rest before after disk at are all is_left within is may going fed =
       let beyond = at.left image may in
       let there = after_lines talk at.out in
       let done = at.out ++ beyond.0 in
@@ -194,6 +207,8 @@ module _ (sealing : Sealing) (talk : Talk) (input : List ℕ) (left : Option (Li
             let alone : IsAlone Each there at.now at.bytes = rw each at at.alone in
             let one = front-one there beyond.0 beyond.1 (ap (λ (l : List (List ℕ)). length l) (sym beyond.2) ∙ alone.0) in
             omega (arith, one, before_them, events, both);
+        all = λ done. absurd (going done);
+        starved = λ starved. absurd (fed starved);
         read = taken;
         others = rest;
         are = all;
@@ -208,9 +223,10 @@ abbrev Answered : Talk → List ℕ → Option (List ℕ) → Option (List ℕ) 
 Answered talk input before after =
     (done : List (List ℕ)) × (others : List (List ℕ)) × (steps talk.form input ≡ done ++ others) × (after ≡ appended before (text_of talk done))
 
-abbrev Went : Sealing → Talk → List ℕ → Option (List ℕ) → Option (List ℕ) → Option (List ℕ) → Told → Type 0
-Went sealing talk input left before after disk =
-    Answered talk input before after ⊎ ((status : Status) × Stopped sealing talk input left before after disk status)
+abbrev Went : Sealing → Talk → List ℕ → Option (List ℕ) → Option (List ℕ) → Option (List ℕ) → Told → Status → Type 0
+Went sealing talk input left before after disk status =
+    Answered talk input before after
+    ⊎ ((status ≡ Done → ⊥) × (status ≡ OutOfMemory → ⊥) × Stopped sealing talk input left before after disk status)
 
 -- its status is none of those of a run that wasn't, or whose disk doesn't tell
 pub record HasBegun (status : Status) : Type 0 where
@@ -233,28 +249,44 @@ HasBegun-ends old new before after had has status history ends tells stands = re
 }
 
 module _ (sealing : Sealing) (talk : Talk) (input : List ℕ) (left before after : Option (List ℕ)) (disk : Told) where
-  none-answered : NotBegun input left before after → Went sealing talk input left before after disk
-  none-answered none = inl ([], steps talk.form input, refl, none.1 ∙ sym (appended-nil before))
-
-  begun-or : (status : Status) → NotBegun input left before after ⊎ Stopped sealing talk input left before after disk status →
-      Went sealing talk input left before after disk
-  begun-or status (inl none) = none-answered none
-  begun-or status (inr stopped) = inr (status, stopped)
+  none-answered : NotBegun input left before after → Answered talk input before after
+  none-answered none = ([], steps talk.form input, refl, none.1 ∙ sym (appended-nil before))
 
   so_far-answered : (taken rest : List ℕ) → taken ++ rest ≡ input → after ≡ appended before (report_so_far talk taken) →
-      Went sealing talk input left before after disk
+      Answered talk input before after
   so_far-answered taken rest all sent =
       let more = steps-front talk.form taken rest in
-      inl (steps_so_far talk.form taken, more.0, ap (λ bs. steps talk.form bs) (sym all) ∙ more.1, sent)
+      (steps_so_far talk.form taken, more.0, ap (λ bs. steps talk.form bs) (sym all) ∙ more.1, sent)
 
-  went : (status : Status) → HasBegun status → Reports sealing talk input left before after disk status → Went sealing talk input left before after disk
+  -- where memory ran out nothing was said to the line at which the run stopped
+  starved-answered : Stopped sealing talk input left before after disk OutOfMemory → Answered talk input before after
+  starved-answered stopped =
+      let at = stopped.3 in
+      let here = text_of talk at.out in
+      let more = steps-read talk.form input stopped.0 stopped.1 stopped.2.all in
+      let rest = at.now ++ at.others in (
+        at.out,
+        rest ++ more.0,
+        more.1 ∙ ap (λ ls. ls ++ more.0) at.are ∙ append_assoc at.out rest more.0,
+        at.sent ∙ ap (λ k. appended before (here ++ take k (text_of (after_lines talk at.out) at.now))) (at.starved refl).0
+            ∙ ap (λ bs. appended before bs) (append-nil here),
+      )
+
+  went : (status : Status) → HasBegun status → Reports sealing talk input left before after disk status →
+      Went sealing talk input left before after disk status
   went Done has reports = inl (steps talk.form input, [], sym (append-nil (steps talk.form input)), reports.whole refl)
-  went DiskFault has reports = begun-or DiskFault (reports.broken refl)
-  went SourceFault has reports = let at = reports.faulted refl in so_far-answered at.0 at.1 at.2.all at.3
-  went SinkFault has reports = inr (SinkFault, reports.cut refl)
-  went OutOfMemory has reports = begun-or OutOfMemory (reports.starved refl)
+  went DiskFault has reports = elim (reports.broken refl) [
+    | inl none ↦ inl (none-answered none)
+    | inr stopped ↦ inr (λ done. cc, λ starved. cc, stopped)
+  ]
+  went SourceFault has reports = let at = reports.faulted refl in inl (so_far-answered at.0 at.1 at.2.all at.3)
+  went SinkFault has reports = inr (λ done. cc, λ starved. cc, reports.cut refl)
+  went OutOfMemory has reports = elim (reports.starved refl) [
+    | inl none ↦ inl (none-answered none)
+    | inr stopped ↦ inl (starved-answered stopped)
+  ]
   went InputLimit has reports =
-      so_far-answered (take LONGEST_INPUT input) (drop LONGEST_INPUT input) (take-append-drop LONGEST_INPUT input) (reports.limited refl)
+      inl (so_far-answered (take LONGEST_INPUT input) (drop LONGEST_INPUT input) (take-append-drop LONGEST_INPUT input) (reports.limited refl))
   went Usage has reports = absurd (has.known refl)
   went RefusedStore has reports = absurd (has.stands refl)
   went RecordChanged has reports = absurd (has.firm refl)
@@ -267,7 +299,7 @@ held-after had has a b after sent is_has = sym is_has ∙ sent ∙ sym (appended
 -- each image holds what it has to, by the sink's new bytes
 pub HoldsOks-serves : (sealing : Sealing) (talk : Talk) (input : List ℕ) (left before after : Option (List ℕ)) (old new : Told) (status : Status) →
     HasBegun status → Serves sealing talk input left before after old new status → (had has : List ℕ) → before ≡ Some had → after ≡ Some has →
-    (image : List ℕ) → new.may_leave image → HoldsOks sealing talk input left (length has - length had) image
+    (image : List ℕ) → new.may_leave image → HoldsOks sealing talk input left (length has - length had) status image
 HoldsOks-serves sealing talk input left before after old new status has_begun serves had has is_had is_has image may =
     elim (went sealing talk input left before after new status has_begun serves.report) [
       | inl answered ↦
@@ -275,15 +307,16 @@ HoldsOks-serves sealing talk input left before after old new status has_begun se
           let held = held-after had has text [] after (answered.3 ∙ ap (λ o. appended o text) is_had ∙ ap (λ bs. appended (Some had) bs) (sym (append-nil text)))
           is_has in
           let bytes = new_bytes had has text [] 0 held (omega arith) in
-          HoldsOks-exact sealing talk input left (length has - length had) image status answered.0 answered.1 (serves.kept had has is_had is_has image may)
+          HoldsOks-exact sealing talk input left (length has - length had) status image answered.0 answered.1 (serves.kept had has is_had is_has image may)
           answered.2 (omega (arith, bytes)))
       | inr stopped ↦
-          (let at = stopped.1.3 in
-          let took = stopped.1.2 in
+          (let at = stopped.2.3 in
+          let took = stopped.2.2 in
           let here = text_of talk at.out in
           let text = text_of (after_lines talk at.out) at.now in
           let held = held-after had has here (take at.bytes text) after (at.sent ∙ ap (λ o. appended o (here ++ take at.bytes text)) is_had) is_has in
-          let more = steps-read talk.form input stopped.1.0 stopped.1.1 took.all in
-          HoldsOks-among sealing talk input left (length has - length had) image (steps_within talk.form stopped.1.0 stopped.1.1) more.0 stopped.1.0 stopped.1.1
-          before after new stopped.0 at more.1 took.all took.others refl (new_bytes had has here text at.bytes held at.few) may)
+          let more = steps-read talk.form input stopped.2.0 stopped.2.1 took.all in
+          HoldsOks-among sealing talk input left (length has - length had) status image (steps_within talk.form stopped.2.0 stopped.2.1) more.0
+          stopped.2.0 stopped.2.1 before after new at more.1 took.all took.others refl (new_bytes had has here text at.bytes held at.few) may
+          stopped.0 stopped.1)
     ]

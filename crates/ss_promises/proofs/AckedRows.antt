@@ -1,5 +1,5 @@
 -- Worked rows of events that are acknowledged by their `ok`, whatever is said behind it, computed.
-use Rattle.ss_program.proofs.Common.{◌≡◌, ◌⊎◌, ◌∙◌, ◌≤◌, ◌++◌, ℕ, List, [], ◌∷◌, length, take, zero, suc, arith, inl, inr, lit≤, refl, map, true, false, Some, codes}
+use Rattle.ss_program.proofs.Common.{◌≡◌, ◌⊎◌, ◌∙◌, ◌≤◌, ◌++◌, ℕ, List, [], ◌∷◌, length, take, zero, suc, arith, inl, inr, lit≤, refl, ap, map, true, false, Some, codes}
 use Rattle.ss_program.proofs.Common.{flat_map, pos, append-nil, Lines, Sessions, Frames, Follow, Each, Create, Value, exp, Happened, added, Stands, acks}
 use Rattle.ss_program.proofs.Common.{begun, steps, Talk}
 use Rattle.hex.specs.Hex.{encode_with}
@@ -15,6 +15,7 @@ use Rattle.ss_frames.specs.Frame.{frame_spelled}
 use Rattle.ss_model.specs.Refusals.{refuses}
 use Rattle.ss_model.specs.State.{state}
 use Rattle.ss_targets.specs.Windowing.{window_index}
+use Rattle.ss_program.specs.declared.status.Status.TheVariants.{Done, OutOfMemory, SinkFault}
 use Rattle.ss_promises.specs.Acked.{HoldsOks, first_line, ok_of, oks}
 
 -- lines, each with its line end
@@ -87,7 +88,7 @@ one-or_two (suc (suc zero)) some few = inr refl
 one-or_two (suc (suc (suc j))) some few = absurd (omega (arith, few))
 
 -- a framed run of these lines whose sink failed after 7 bytes, in the frame of the first: the image holds the first event
-held-first : (image : List ℕ) → HoldsOks Each (begun (Lines true) []) (text lines_of) (Some []) 7 image →
+held-first : (image : List ℕ) → HoldsOks Each (begun (Lines true) []) (text lines_of) (Some []) 7 SinkFault image →
     Stands (created ∷ []) image ⊎ Stands (created ∷ ten ∷ []) image
 unfolding ended_lines unended meaning words is_number number_of number_up_to signed_of is_name state refuses window_index digits encode_with frame_spelled Fields.with_field Numbers.number_bytes
 held-first image holds =
@@ -99,7 +100,7 @@ held-first image holds =
     ]
 
 -- and an image with the first event alone does
-first-held : (image : List ℕ) → Stands (created ∷ []) image → HoldsOks Each (begun (Lines true) []) (text lines_of) (Some []) 7 image
+first-held : (image : List ℕ) → Stands (created ∷ []) image → HoldsOks Each (begun (Lines true) []) (text lines_of) (Some []) 7 SinkFault image
 unfolding ended_lines unended meaning words is_number number_of number_up_to signed_of is_name state refuses window_index digits encode_with frame_spelled Fields.with_field Numbers.number_bytes
 first-held image stands = record {
   j = 1;
@@ -107,9 +108,24 @@ first-held image stands = record {
   few = lit≤ tt;
   acked = lit≤ tt;
   at_most = λ each. lit≤ tt;
+  all = λ done. cc;
+  starved = λ starved. cc;
   read = text lines_of;
   others = [];
   are = append-nil (text lines_of);
   rest = refl;
   within = lit≤ tt;
 }
+
+-- done, it holds both, and where memory ran out the first alone
+held-done : (image : List ℕ) → HoldsOks Each (begun (Lines true) []) (text lines_of) (Some []) 7 Done image → Stands (created ∷ ten ∷ []) image
+unfolding ended_lines unended meaning words is_number number_of number_up_to signed_of is_name state refuses window_index digits encode_with frame_spelled Fields.with_field Numbers.number_bytes
+held-done image holds =
+    let all : holds.j ≡ 2 = holds.all refl in
+    rw (ap (λ j. take j (created ∷ ten ∷ [])) all) at holds.stands.0
+
+held-starved : (image : List ℕ) → HoldsOks Each (begun (Lines true) []) (text lines_of) (Some []) 7 OutOfMemory image → Stands (created ∷ []) image
+unfolding ended_lines unended meaning words is_number number_of number_up_to signed_of is_name state refuses window_index digits encode_with frame_spelled Fields.with_field Numbers.number_bytes
+held-starved image holds =
+    let one : holds.j ≡ 1 = holds.starved refl in
+    rw (ap (λ j. take j (created ∷ ten ∷ [])) one) at holds.stands.0

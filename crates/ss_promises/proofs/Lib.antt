@@ -21,4 +21,5 @@ pub mod AlikeLemmas
 pub mod AlikeText
 pub mod OwnedLemmas
 pub mod LengthLemmas
+mod ShortRows
 pub mod PrimaryRows

@@ -9,6 +9,8 @@ use Rattle.ss_program.specs.Outcome.{steps_within}
 use Rattle.ss_program.specs.Session.{accepted, after_line}
 use Rattle.ss_program.specs.Steps.{steps}
 use Rattle.ss_program.specs.Talk.{Talk, turn_of}
+use Rattle.ss_program.specs.declared.status.Status.{Status}
+use Rattle.ss_program.specs.declared.status.Status.TheVariants.{Done, OutOfMemory}
 use Rattle.ss_store.specs.Uses.{StandsShort}
 
 -- the first line of a text, with its line end
@@ -30,13 +32,17 @@ oks talk (line ∷ ls) bytes = cond (nat_le (length (ok_of talk.form (turn_of ta
     (length (the_event (turn_of talk line).event) + oks (after_line talk line) ls (bytes - length (turn_of talk line).says)) 0
 
 -- The image stands for the history and the first accepted events: all whose `ok` is whole within so many bytes of the report, and no more
--- than were accepted of the lines that were read. Where each event is sealed by itself, it is at most one more.
-pub record HoldsOks (sealing : Sealing) (talk : Talk) (input : List ℕ) (left : Option (List ℕ)) (bytes : ℕ) (image : List ℕ) : Type 0 where
+-- than were accepted of the lines that were read. Where each event is sealed by itself, it is at most one more. Done, it holds all of them;
+-- where memory ran out, no more than those.
+pub record HoldsOks (sealing : Sealing) (talk : Talk) (input : List ℕ) (left : Option (List ℕ)) (bytes : ℕ) (status : Status)
+    (image : List ℕ) : Type 0 where
   pub j : ℕ
   pub stands : StandsShort talk.used (talk.history ++ take j (accepted talk (steps talk.form input))) image
   pub few : j ≤ length (accepted talk (steps talk.form input))
   pub acked : oks talk (steps talk.form input) bytes ≤ j
   pub at_most : sealing ≡ Each → j ≤ oks talk (steps talk.form input) bytes + 1
+  pub all : status ≡ Done → j ≡ length (accepted talk (steps talk.form input))
+  pub starved : status ≡ OutOfMemory → j ≡ oks talk (steps talk.form input) bytes
   pub read : List ℕ
   pub others : List ℕ
   pub are : read ++ others ≡ input

@@ -76,7 +76,7 @@ pub fn runs_hold_what_they_acknowledge<D: Disk>(old: &D, new: &D)
         (status : Status) → EndsAs number status → (form : Form) (sealing : Sealing) (history : History) (input : List ℕ) →
         BeginsOver form sealing mode (D.seen old.now) left history input → (had has : List ℕ) →
         held ≡ Some had → holds ≡ Some has → (image : List ℕ) → (D.seen new.now).told.may_leave image →
-        HoldsOks sealing (begun form history) input rest (length has - length had) image }
+        HoldsOks sealing (begun form history) input rest (length has - length had) status image }
     // Where a read of the source fails, the sink got the whole reply to each line that had ended in what was read, and nothing more. No
     // run can know before that a read will fail, so this is what it sent before each read.
     ensures asked_again { (mode : Option Mode) (left rest held holds : Option (List ℕ)) (number : ℕ) →
