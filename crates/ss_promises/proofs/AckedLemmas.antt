@@ -2,7 +2,7 @@
 use Rattle.ss_program.proofs.Common.{◌≡◌, ◌∙◌, ◌⊎◌, inl, inr, ℕ, ◌+◌, ◌-◌, ◌<◌, ◌≤◌, ◌++◌, List, [], ◌∷◌, length, take, drop, Option, Some, None, IsSome, IsTrue}
 use Rattle.ss_program.proofs.Common.{refl, sym, ap, append_assoc, append-nil, arith, common_steps, nat_le, cases_lt, cond-true, cond-false, le-leb, lt-leb}
 use Rattle.ss_program.proofs.Common.{length-append, take-append-drop, Event, Happened, Told, acks, the_event, HoldsBy, NotBegun, Reports, Stopped, steps_within}
-use Rattle.ss_program.proofs.Common.{IsAlone, StopsAmong, StandsBeyond, appended, accepted, after_line, after_lines, report_so_far, text_of, Talk, turn_of, Form}
+use Rattle.ss_program.proofs.Common.{IsAlone, StopsAmong, appended, accepted, after_line, after_lines, report_so_far, text_of, Talk, turn_of, Form}
 use Rattle.ss_program.proofs.Common.{Lines, Sessions, Frames, Follow, Sealing, Each, Serves}
 use Rattle.ss_program.proofs.Common.{steps, steps_so_far, cond, Turn, after_turn}
 use Rattle.ss_program.proofs.OverLemmas.{over_slots, turn-over}

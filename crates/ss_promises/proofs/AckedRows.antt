@@ -1,7 +1,7 @@
 -- Worked rows of events that are acknowledged by their `ok`, whatever is said behind it, computed.
-use Rattle.ss_program.proofs.Common.{◌≡◌, ◌⊎◌, ◌∙◌, ◌≤◌, ◌++◌, ℕ, List, [], ◌∷◌, length, take, zero, suc, arith, inl, inr, lit≤, refl, ap, map, true, false, Some, codes}
+use Rattle.ss_program.proofs.Common.{◌≡◌, ◌⊎◌, ◌≤◌, ◌++◌, ℕ, List, [], ◌∷◌, take, zero, suc, arith, inl, inr, lit≤, refl, ap, map, true, false, Some, codes}
 use Rattle.ss_program.proofs.Common.{flat_map, pos, append-nil, Lines, Sessions, Frames, Follow, Each, Create, Value, exp, Happened, added, Stands, acks}
-use Rattle.ss_program.proofs.Common.{begun, steps, Talk}
+use Rattle.ss_program.proofs.Common.{begun}
 use Rattle.hex.specs.Hex.{encode_with}
 use Rattle.std.specs.Fmt.{digits}
 use Rattle.ss_catalog.specs.Names.{is_name}

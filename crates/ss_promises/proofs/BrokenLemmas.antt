@@ -1,9 +1,9 @@
 -- What comes of an input of frames in which any bytes may be broken.
-use Rattle.ss_program.proofs.Common.{◌≡◌, ◌∙◌, ◌⊎◌, ◌++◌, ◌+◌, ℕ, List, [], ◌∷◌, Option, Some, None, Bool, true, false, refl, sym, ap, inl, inr, arith, append_assoc}
-use Rattle.ss_program.proofs.Common.{common_steps, append-nil, subst, length, All, All-cons, All-head, All-nil, All-tail, flat_map, flat_map-append, IsTrue, nat_le, nat_lt}
+use Rattle.ss_program.proofs.Common.{◌≡◌, ◌∙◌, ◌++◌, ◌+◌, ℕ, List, [], ◌∷◌, Option, Some, None, true, false, refl, sym, ap, inl, inr, arith}
+use Rattle.ss_program.proofs.Common.{append-nil, subst, length, All, All-cons, All-head, All-nil, All-tail, flat_map, flat_map-append, nat_le, nat_lt}
 use Rattle.ss_program.proofs.Common.{Form, Lines, Sessions, Frames, Follow, Event, Create, Value, Open, Close, Drop, event_name, FrameState, IsValidFrame, frame_in}
-use Rattle.ss_program.proofs.Common.{SpellsFrame-frame_in, pieces, Happened, added, IsHistory, state, Stream, added_event, after_offers, due_in, frame_of, Due, Next}
-use Rattle.ss_program.proofs.Common.{reply_line, History, frame_brings, text_said, the_event, accepted, after_line, after_lines, text_of, Talk, begun, turn_in, turn_of}
+use Rattle.ss_program.proofs.Common.{SpellsFrame-frame_in, pieces, Happened, added, IsHistory, state, Stream, after_offers, due_in, frame_of, Due, Next}
+use Rattle.ss_program.proofs.Common.{reply_line, History, frame_brings, text_said, the_event, accepted, after_line, after_lines, text_of, Talk, begun, turn_in}
 use Rattle.ss_program.proofs.Common.{Stands, StandsWithin, Recovers, stream_named, refuses, unless_refused, accepted_in, due_brings, Refusal}
 use Rattle.ss_replica.proofs.FrontLemmas.{IsReplica, IsReplica-fronts, number-frame, of_front, replica-offers}
 use Rattle.ss_replica.specs.Fronts.{AreFronts, IsFrameOf, IsOfFront, drops_none}
@@ -13,7 +13,7 @@ use Rattle.ss_replica.specs.declared.judging.Due.TheVariants.{Old as OldFrame, G
 use Rattle.ss_store.specs.Recover.{recovers}
 use Rattle.std.proofs.lemmas.Bool.{cases_Bool}
 use Rattle.std.proofs.lemmas.Bool.Decides.{nat_tests}
-use Rattle.ss_promises.specs.Followed.{AreSomeOf, FollowsPrimary, after_piece, frames_after, frames_of, frames_within, piece_replies, piece_reply, the_frame}
+use Rattle.ss_promises.specs.Followed.{AreSomeOf, FollowsPrimary, after_piece, frames_after, frames_of, piece_replies, piece_reply, the_frame}
 use Rattle.ss_promises.proofs.ConversationLemmas.{talk-leaves}
 use Rattle.ss_promises.proofs.FollowedLemmas.{due-said}
 

@@ -1,5 +1,5 @@
 -- Worked rows of inputs of frames in which pieces are broken or cut, computed.
-use Rattle.ss_program.proofs.Common.{◌≡◌, ◌++◌, ℕ, List, [], ◌∷◌, Some, None, refl, inl, inr, flat_map, replicate, pos, codes, exp, Follow, Create, Value, Happened}
+use Rattle.ss_program.proofs.Common.{◌≡◌, ◌++◌, ℕ, List, [], ◌∷◌, None, refl, inl, inr, flat_map, replicate, pos, codes, exp, Follow, Create, Value, Happened}
 use Rattle.ss_program.proofs.Common.{added, FrameState, accepted, report, begun, steps, All, All-cons, All-head, All-nil, subst, sym, arith, length}
 use Rattle.ss_promises.proofs.PrimaryRows.{primary-readings}
 use Rattle.ss_replica.specs.Fronts.{IsFrameOf}

@@ -5,7 +5,7 @@ use Rattle.ss_program.proofs.Common.{◌≡◌, ◌∙◌, ◌⊎◌, ℕ, ◌+�
 use Rattle.ss_program.proofs.Common.{append_assoc, arith, inl, inr, append-nil, max, Form, Mode, Serve, Check, Gen, Sealing, Each, nothing_pending-same}
 use Rattle.ss_program.proofs.Common.{read_leaves, reads-none, KnowsNow, OnlyReads, DiskView, NothingPending, Told, WhereTold, Stands, StandsShort, UsesAtMost}
 use Rattle.ss_program.proofs.Common.{most_needed, length-uses, UsesAtMost-more, LeavesOnly, now, subst, Result, Shared, length-append, IsTrue, Bool}
-use Rattle.ss_program.proofs.Common.{Generates, generated_lines, History, Serves, accepted, steps, Talk, begun, steps_within, Happened}
+use Rattle.ss_program.proofs.Common.{Generates, generated_lines, History, Serves, accepted, steps, Talk, begun, Happened}
 use Rattle.ss_program.proofs.Common.{begun_over, plain_talk}
 use Rattle.ss_journal.specs.Calls.{MakesChecked}
 use Rattle.ss_journal.specs.declared.format.TheConstants.{FIRST_SLOT, MOST_SLOTS}
@@ -18,8 +18,8 @@ use Rattle.ss_store.proofs.KeptStates.{Stands-of_map}
 use Rattle.ss_stream.proofs.Slots.{Turns-kept}
 use Rattle.ss_stream.proofs.Within.{KeepsWithin-map}
 use Rattle.ss_promises.proofs.AckedLemmas.{HasBegun, HasBegun-ends, HoldsOks-serves, oks-more, oks-nothing, oks-over}
-use Rattle.ss_promises.specs.Acked.{HoldsOks, oks}
-use Rattle.ss_promises.specs.Chained.{AreLinked, AreOfRead, Called, Ending, Extends, ExtendsAll, IsKnown, IsLeftBy, IsLink, Link, a_run, accepted_of, acked_in}
+use Rattle.ss_promises.specs.Acked.{oks}
+use Rattle.ss_promises.specs.Chained.{AreLinked, Called, Ending, Extends, ExtendsAll, IsKnown, IsLeftBy, IsLink, Link, a_run, accepted_of, acked_in}
 use Rattle.ss_promises.specs.Chained.{acked_of, at_a_moment, by_crash, by_itself, bytes_by, making, offered_in}
 
 -- the history after a run, where its image stands for one and is no longer than that allows

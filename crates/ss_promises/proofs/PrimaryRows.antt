@@ -1,5 +1,5 @@
 -- What a primary is, which frames are its own and which streams are alike: at some rows, and just beside them.
-use Rattle.std.proofs.Common.{◌≡◌, ◌++◌, ℕ, Bool, true, false, List, [], ◌∷◌, map, None, Some, refl, codes, pos, lit<, lit≤, arith, ap}
+use Rattle.std.proofs.Common.{◌≡◌, ◌++◌, ℕ, true, false, List, [], ◌∷◌, map, None, Some, refl, codes, pos, lit<, lit≤, arith, ap}
 use Rattle.std.specs.Prelude.{get_or}
 use Rattle.std.specs.Int.{w64}
 use Rattle.std.proofs.lemmas.Int.{fits_signed_from_abs}

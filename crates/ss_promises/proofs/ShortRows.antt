@@ -1,5 +1,5 @@
 -- Worked rows of how many streams a history has at any time, and of how long a file may be, at both sides of each bound.
-use Rattle.ss_program.proofs.Common.{◌≡◌, ◌++◌, ◌+◌, ◌<◌, ◌≤◌, ℕ, List, [], ◌∷◌, length, refl, arith, lit≤, All, All-cons, All-head, All-nil, codes, pos, exp}
+use Rattle.ss_program.proofs.Common.{◌≡◌, ◌++◌, ◌<◌, ◌≤◌, ℕ, List, [], ◌∷◌, length, refl, arith, lit≤, All, All-cons, All-head, All-nil, codes, pos, exp}
 use Rattle.ss_program.proofs.Common.{⊤, Create, Value, Drop, Happened, added, Stream, state, History}
 use Rattle.std.proofs.Common.{lit<}
 use Rattle.ss_model.specs.State as State

@@ -1,4 +1,4 @@
-use Rattle.ss_program.proofs.Common.{None, [], append-nil, refl, sym, Follow, after_lines, begun, pieces}
+use Rattle.ss_program.proofs.Common.{None, [], append-nil, sym, Follow, after_lines, begun, pieces}
 use Rattle.ss_promises.proofs.BrokenLemmas.{first-replica, image-replica, image-streams, replica-fronts}
 use Rattle.ss_promises.proofs.frame_laws.followers_own_fronts_of_their_primary.Goals as goal
 
