@@ -1,5 +1,6 @@
 -- Which accepted events an image holds, by how many of their `ok`s the sink got.
-use Rattle.ss_program.proofs.Common.{◌≡◌, ◌∙◌, ◌⊎◌, inl, inr, ℕ, ◌+◌, ◌-◌, ◌<◌, ◌≤◌, ◌++◌, List, [], ◌∷◌, length, take, drop, Option, Some, None, IsSome, IsTrue}
+use Rattle.ss_program.proofs.Common.{◌≡◌, ◌∙◌, ◌⊎◌, inl, inr, ℕ, ◌+◌, ◌-◌, ◌<◌, ◌≤◌, ◌++◌, List, [], ◌∷◌, length, take, drop, Option, Some, None}
+use Rattle.ss_program.proofs.Common.{IsSome, IsTrue}
 use Rattle.ss_program.proofs.Common.{refl, sym, ap, append_assoc, append-nil, arith, common_steps, nat_le, cases_lt, cond-true, cond-false, le-leb, lt-leb}
 use Rattle.ss_program.proofs.Common.{length-append, take-append-drop, Event, Happened, Told, acks, the_event, HoldsBy, NotBegun, Reports, Stopped, steps_within}
 use Rattle.ss_program.proofs.Common.{IsAlone, StopsAmong, appended, accepted, after_line, after_lines, report_so_far, text_of, Talk, turn_of, Form}
@@ -8,7 +9,8 @@ use Rattle.ss_program.proofs.Common.{steps, steps_so_far, cond, Turn, after_turn
 use Rattle.ss_program.proofs.OverLemmas.{over_slots, turn-over}
 use Rattle.ss_program.specs.declared.running.TheConstants.{LONGEST_INPUT}
 use Rattle.ss_program.specs.declared.status.Status.{Status}
-use Rattle.ss_program.specs.declared.status.Status.TheVariants.{DiskFault, Done, InputLimit, OutOfMemory, RecordChanged, RefusedStore, SinkFault, SourceFault, Usage}
+use Rattle.ss_program.specs.declared.status.Status.TheVariants.{DiskFault, Done, InputLimit, OutOfMemory, RecordChanged, RefusedStore}
+use Rattle.ss_program.specs.declared.status.Status.TheVariants.{SinkFault, SourceFault, Usage}
 use Rattle.ss_program.proofs.Common.{DiskView, Ends, History, Mode, Stands, over, served_by, serving, state}
 use Rattle.ss_program.proofs.EndLemmas.{not-refused}
 use Rattle.ss_program.proofs.HeldLemmas.{accepted-append, acks-done, few-events, first-short, new_bytes, none-cut}
@@ -304,8 +306,8 @@ HoldsOks-serves sealing talk input left before after old new status has_begun se
     elim (went sealing talk input left before after new status has_begun serves.report) [
       | inl answered ↦
           (let text = text_of talk answered.0 in
-          let held = held-after had has text [] after (answered.3 ∙ ap (λ o. appended o text) is_had ∙ ap (λ bs. appended (Some had) bs) (sym (append-nil text)))
-          is_has in
+          let sent = answered.3 ∙ ap (λ o. appended o text) is_had ∙ ap (λ bs. appended (Some had) bs) (sym (append-nil text)) in
+          let held = held-after had has text [] after sent is_has in
           let bytes = new_bytes had has text [] 0 held (omega arith) in
           HoldsOks-exact sealing talk input left (length has - length had) status image answered.0 answered.1 (serves.kept had has is_had is_has image may)
           answered.2 (omega (arith, bytes)))

@@ -58,12 +58,14 @@ lines_of = codes "create a exp 2 1 1" ∷ codes "append a 10 5" ∷ []
 -- the frame.
 oks-framed : map (λ bytes. oks (begun (Lines true) []) lines_of bytes) (0 ∷ 6 ∷ 7 ∷ 141 ∷ 142 ∷ 148 ∷ 149 ∷ 284 ∷ [])
     ≡ 0 ∷ 0 ∷ 1 ∷ 1 ∷ 1 ∷ 1 ∷ 2 ∷ 2 ∷ []
-unfolding meaning words is_number number_of number_up_to signed_of is_name state refuses window_index digits encode_with frame_spelled Fields.with_field Numbers.number_bytes
+unfolding meaning words is_number number_of number_up_to signed_of is_name state refuses window_index digits encode_with frame_spelled
+    Fields.with_field Numbers.number_bytes
 oks-framed = refl
 
 acks-framed : map (λ bytes. acks (begun (Lines true) []) lines_of bytes) (0 ∷ 6 ∷ 7 ∷ 141 ∷ 142 ∷ 148 ∷ 149 ∷ 284 ∷ [])
     ≡ 0 ∷ 0 ∷ 0 ∷ 0 ∷ 1 ∷ 1 ∷ 1 ∷ 2 ∷ []
-unfolding meaning words is_number number_of number_up_to signed_of is_name state refuses window_index digits encode_with frame_spelled Fields.with_field Numbers.number_bytes
+unfolding meaning words is_number number_of number_up_to signed_of is_name state refuses window_index digits encode_with frame_spelled
+    Fields.with_field Numbers.number_bytes
 acks-framed = refl
 
 -- plain lines have one reply, and a frame that is written counts whole
@@ -77,7 +79,8 @@ oks-frames = refl
 
 -- the same of lines of sessions, whose `ok` has its session before it
 oks-sessions : map (λ bytes. oks (begun (Sessions true) []) (codes "@3 create a exp 2 1 1" ∷ []) bytes) (9 ∷ 10 ∷ []) ≡ 0 ∷ 1 ∷ []
-unfolding meaning words is_number number_of number_up_to signed_of is_name state refuses window_index digits encode_with frame_spelled Fields.with_field Numbers.number_bytes
+unfolding meaning words is_number number_of number_up_to signed_of is_name state refuses window_index digits encode_with frame_spelled
+    Fields.with_field Numbers.number_bytes
 oks-sessions = refl
 
 -- some first of two, from one on
@@ -90,7 +93,8 @@ one-or_two (suc (suc (suc j))) some few = absurd (omega (arith, few))
 -- a framed run of these lines whose sink failed after 7 bytes, in the frame of the first: the image holds the first event
 held-first : (image : List ℕ) → HoldsOks Each (begun (Lines true) []) (text lines_of) (Some []) 7 SinkFault image →
     Stands (created ∷ []) image ⊎ Stands (created ∷ ten ∷ []) image
-unfolding ended_lines unended meaning words is_number number_of number_up_to signed_of is_name state refuses window_index digits encode_with frame_spelled Fields.with_field Numbers.number_bytes
+unfolding ended_lines unended meaning words is_number number_of number_up_to signed_of is_name state refuses window_index digits encode_with
+    frame_spelled Fields.with_field Numbers.number_bytes
 held-first image holds =
     let some : 1 ≤ holds.j = holds.acked in
     let few : holds.j ≤ 2 = holds.few in
@@ -101,7 +105,8 @@ held-first image holds =
 
 -- and an image with the first event alone does
 first-held : (image : List ℕ) → Stands (created ∷ []) image → HoldsOks Each (begun (Lines true) []) (text lines_of) (Some []) 7 SinkFault image
-unfolding ended_lines unended meaning words is_number number_of number_up_to signed_of is_name state refuses window_index digits encode_with frame_spelled Fields.with_field Numbers.number_bytes
+unfolding ended_lines unended meaning words is_number number_of number_up_to signed_of is_name state refuses window_index digits encode_with
+    frame_spelled Fields.with_field Numbers.number_bytes
 first-held image stands = record {
   j = 1;
   stands = (stands, tt);
@@ -119,13 +124,15 @@ first-held image stands = record {
 
 -- done, it holds both, and where memory ran out the first alone
 held-done : (image : List ℕ) → HoldsOks Each (begun (Lines true) []) (text lines_of) (Some []) 7 Done image → Stands (created ∷ ten ∷ []) image
-unfolding ended_lines unended meaning words is_number number_of number_up_to signed_of is_name state refuses window_index digits encode_with frame_spelled Fields.with_field Numbers.number_bytes
+unfolding ended_lines unended meaning words is_number number_of number_up_to signed_of is_name state refuses window_index digits encode_with
+    frame_spelled Fields.with_field Numbers.number_bytes
 held-done image holds =
     let all : holds.j ≡ 2 = holds.all refl in
     rw (ap (λ j. take j (created ∷ ten ∷ [])) all) at holds.stands.0
 
 held-starved : (image : List ℕ) → HoldsOks Each (begun (Lines true) []) (text lines_of) (Some []) 7 OutOfMemory image → Stands (created ∷ []) image
-unfolding ended_lines unended meaning words is_number number_of number_up_to signed_of is_name state refuses window_index digits encode_with frame_spelled Fields.with_field Numbers.number_bytes
+unfolding ended_lines unended meaning words is_number number_of number_up_to signed_of is_name state refuses window_index digits encode_with
+    frame_spelled Fields.with_field Numbers.number_bytes
 held-starved image holds =
     let one : holds.j ≡ 1 = holds.starved refl in
     rw (ap (λ j. take j (created ∷ ten ∷ [])) one) at holds.stands.0

@@ -1,7 +1,8 @@
 -- What comes of an input of frames in which any bytes may be broken.
 use Rattle.ss_program.proofs.Common.{◌≡◌, ◌∙◌, ◌++◌, ◌+◌, ℕ, List, [], ◌∷◌, Option, Some, None, true, false, refl, sym, ap, inl, inr, arith}
 use Rattle.ss_program.proofs.Common.{append-nil, subst, length, All, All-cons, All-head, All-nil, All-tail, flat_map, flat_map-append, nat_le, nat_lt}
-use Rattle.ss_program.proofs.Common.{Form, Lines, Sessions, Frames, Follow, Event, Create, Value, Open, Close, Drop, event_name, FrameState, IsValidFrame, frame_in}
+use Rattle.ss_program.proofs.Common.{Form, Lines, Sessions, Frames, Follow, Event, Create, Value, Open, Close, Drop, event_name}
+use Rattle.ss_program.proofs.Common.{FrameState, IsValidFrame, frame_in}
 use Rattle.ss_program.proofs.Common.{SpellsFrame-frame_in, pieces, Happened, added, IsHistory, state, Stream, after_offers, due_in, frame_of, Due, Next}
 use Rattle.ss_program.proofs.Common.{reply_line, History, frame_brings, text_said, the_event, accepted, after_line, after_lines, text_of, Talk, begun, turn_in}
 use Rattle.ss_program.proofs.Common.{Stands, StandsWithin, Recovers, stream_named, refuses, unless_refused, accepted_in, due_brings, Refusal}

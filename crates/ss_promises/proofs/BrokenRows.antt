@@ -38,16 +38,19 @@ broken-reply : piece_reply [] None ≡ Refused Frame
 broken-reply = refl
 
 broken-piece : report (begun Follow []) (replicate 64 0) ≡ text (codes "refused FRAME" ∷ [])
-unfolding pieces_so_far unended_piece frame_in event_in params_in frame_spelled is_valid_frame Names.is_name Fields.with_field Numbers.number_at Numbers.number_bytes state refuses window_index digits
+unfolding pieces_so_far unended_piece frame_in event_in params_in frame_spelled is_valid_frame Names.is_name Fields.with_field
+    Numbers.number_at Numbers.number_bytes state refuses window_index digits
 broken-piece = refl
 
 broken-adds : accepted (begun Follow []) (steps Follow (replicate 64 0)) ≡ []
-unfolding pieces_so_far unended_piece frame_in event_in params_in frame_spelled is_valid_frame Names.is_name Fields.with_field Numbers.number_at Numbers.number_bytes state refuses window_index
+unfolding pieces_so_far unended_piece frame_in event_in params_in frame_spelled is_valid_frame Names.is_name Fields.with_field
+    Numbers.number_at Numbers.number_bytes state refuses window_index
 broken-adds = refl
 
 -- and so is what is cut at the end, be it one byte or all but one of a valid frame
 cut-byte : report (begun Follow []) (1 ∷ []) ≡ text (codes "refused FRAME" ∷ [])
-unfolding pieces_so_far unended_piece frame_in event_in params_in frame_spelled is_valid_frame Names.is_name Fields.with_field Numbers.number_at Numbers.number_bytes state refuses window_index digits
+unfolding pieces_so_far unended_piece frame_in event_in params_in frame_spelled is_valid_frame Names.is_name Fields.with_field
+    Numbers.number_at Numbers.number_bytes state refuses window_index digits
 cut-byte = refl
 
 -- nothing has no reply
@@ -60,16 +63,19 @@ abbrev mixed : List ℕ
 mixed = replicate 64 7 ++ (frame_spelled first ++ (replicate 64 0 ++ (frame_spelled first ++ (frame_spelled second ++ codes "cut"))))
 
 mixed-frames : frames_within mixed ≡ first ∷ first ∷ second ∷ []
-unfolding pieces_so_far unended_piece frame_in event_in params_in frame_spelled is_valid_frame Names.is_name Fields.with_field Numbers.number_at Numbers.number_bytes
+unfolding pieces_so_far unended_piece frame_in event_in params_in frame_spelled is_valid_frame Names.is_name Fields.with_field
+    Numbers.number_at Numbers.number_bytes
 mixed-frames = refl
 
 mixed-report : report (begun Follow []) mixed
     ≡ text (codes "refused FRAME" ∷ codes "ok 0 0" ∷ codes "refused FRAME" ∷ codes "old" ∷ codes "ok 1 1" ∷ codes "refused FRAME" ∷ [])
-unfolding pieces_so_far unended_piece frame_in event_in params_in frame_spelled is_valid_frame Names.is_name Fields.with_field Numbers.number_at Numbers.number_bytes state refuses window_index digits
+unfolding pieces_so_far unended_piece frame_in event_in params_in frame_spelled is_valid_frame Names.is_name Fields.with_field
+    Numbers.number_at Numbers.number_bytes state refuses window_index digits
 mixed-report = refl
 
 mixed-adds : accepted (begun Follow []) (steps Follow mixed) ≡ created ∷ added (Value (codes "a") 10 (pos 5)) ∷ []
-unfolding pieces_so_far unended_piece frame_in event_in params_in frame_spelled is_valid_frame Names.is_name Fields.with_field Numbers.number_at Numbers.number_bytes state refuses window_index
+unfolding pieces_so_far unended_piece frame_in event_in params_in frame_spelled is_valid_frame Names.is_name Fields.with_field
+    Numbers.number_at Numbers.number_bytes state refuses window_index
 mixed-adds = refl
 
 -- some of a list are so in its order, and only as often as they stand in it
@@ -117,10 +123,12 @@ abbrev third : FrameState
 third = record { number = 3; event = Value (codes "a") 10 (pos 5) }
 
 third-frames : frames_within (frame_spelled third) ≡ third ∷ []
-unfolding pieces_so_far unended_piece frame_in event_in params_in frame_spelled is_valid_frame Names.is_name Fields.with_field Numbers.number_at Numbers.number_bytes
+unfolding pieces_so_far unended_piece frame_in event_in params_in frame_spelled is_valid_frame Names.is_name Fields.with_field
+    Numbers.number_at Numbers.number_bytes
 third-frames = refl
 
-third-none : (before : List Happened) (origin : Origin) (after : List Happened) → created ∷ ten ∷ [] ≡ before ++ (Value (codes "a") 10 (pos 5), origin) ∷ after →
+third-none : (before : List Happened) (origin : Origin) (after : List Happened) →
+    created ∷ ten ∷ [] ≡ before ++ (Value (codes "a") 10 (pos 5), origin) ∷ after →
     3 ≡ length (own (before ++ (Value (codes "a") 10 (pos 5), origin) ∷ []) (codes "a")) → ⊥
 third-none [] origin after is number = cc
 third-none (e ∷ []) origin after is number =

@@ -1,6 +1,7 @@
 -- What runs over one file leave, one after the other.
 use Rattle.ss_program.specs.declared.status.Status.{Status}
-use Rattle.ss_program.specs.declared.status.Status.TheVariants.{DiskFault, Done, InputLimit, OutOfMemory, RecordChanged, RefusedStore, SinkFault, SourceFault, Usage}
+use Rattle.ss_program.specs.declared.status.Status.TheVariants.{DiskFault, Done, InputLimit, OutOfMemory, RecordChanged, RefusedStore}
+use Rattle.ss_program.specs.declared.status.Status.TheVariants.{SinkFault, SourceFault, Usage}
 use Rattle.ss_program.proofs.Common.{◌≡◌, ◌∙◌, ◌⊎◌, ℕ, ◌+◌, ◌-◌, ◌*◌, ◌<◌, ◌≤◌, ◌++◌, List, [], ◌∷◌, length, take, take_all, Option, Some, None, refl, sym, ap}
 use Rattle.ss_program.proofs.Common.{append_assoc, arith, inl, inr, append-nil, max, Form, Mode, Serve, Check, Gen, Sealing, Each, nothing_pending-same}
 use Rattle.ss_program.proofs.Common.{read_leaves, reads-none, KnowsNow, OnlyReads, DiskView, NothingPending, Told, WhereTold, Stands, StandsShort, UsesAtMost}
@@ -219,7 +220,8 @@ module _ {D : Type 0} (seen : D → DiskView) (knows : (disk : D) → WhereTold 
       idle-goes used link (a_run None) ending history idle-none (rw (same ∙ is.starts.content) stands)
   run-goes used link (Some Check) ending first history stands is =
       let reads = (is.runs.checks refl link.status refl is.starts.tells).unwritten in
-      let same = left-read ending (seen link.old).told (seen link.new).told link.has link.image (knows link.old is.starts.tells) is.starts.durable reads is.left in
+      let same = left-read ending (seen link.old).told (seen link.new).told link.has link.image (knows link.old is.starts.tells) is.starts.durable reads
+      is.left in
       idle-goes used link (a_run (Some Check)) ending history idle-check (rw (same ∙ is.starts.content) stands)
   run-goes used link (Some (Serve form sealing)) ending first history stands is =
       let old = seen link.old in

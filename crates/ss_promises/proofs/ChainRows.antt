@@ -83,7 +83,8 @@ acked-making result bytes history = refl
 
 -- of a framed run one whose sink got the `ok` and not yet the frame behind it
 acked-framed : acked_of (a_run (Some (Serve (Lines true) Each))) first_input 7 [] ≡ 1
-unfolding ended_lines unended meaning words is_number number_of number_up_to signed_of is_name state refuses window_index digits encode_with frame_spelled Fields.with_field Numbers.number_bytes
+unfolding ended_lines unended meaning words is_number number_of number_up_to signed_of is_name state refuses window_index digits encode_with
+    frame_spelled Fields.with_field Numbers.number_bytes
 acked-framed = refl
 
 -- how much a sink that had a byte got: all that it has, what it had got by the crash, or nothing that is known

@@ -39,8 +39,10 @@ returns-clause-asked_again g c mode left rest held holds number serves form seal
     (faulted.0, faulted.1, faulted.2.all, faulted.2.others, faulted.3)
 
 pub returns-clause-ok_held : goal.returns-clause-ok_held
-returns-clause-ok_held g c mode left rest held holds faults faulted number serves ends status is form sealing history input begins had has is_had is_has image may =
+returns-clause-ok_held g c mode left rest held holds faults faulted number serves ends status is form sealing history input begins had has is_had
+    is_has image may =
     let ended = ends (asked-some mode form sealing begins.asked) status is in
     HoldsOks-serves sealing (begun form history) input rest held holds (g.D.Disk.seen c.args.old.now).told (g.D.Disk.seen c.args.new.now).told status
     (HasBegun-ends (g.D.Disk.seen c.args.old.now) (g.D.Disk.seen c.args.new.now) held holds faults faulted status history ended begins.tells begins.stands)
-    (serves form sealing begins.asked status is input begins.source begins.tells begins.durable None history (begins.stands, tt)) had has is_had is_has image may
+    (serves form sealing begins.asked status is input begins.source begins.tells begins.durable None history (begins.stands, tt)) had has is_had
+    is_has image may
