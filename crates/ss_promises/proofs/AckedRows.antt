@@ -1,7 +1,7 @@
 -- Worked rows of events that are acknowledged by their `ok`, whatever is said behind it, computed.
 use Rattle.ss_program.proofs.Common.{◌≡◌, ◌⊎◌, ◌≤◌, ◌++◌, ℕ, List, [], ◌∷◌, take, zero, suc, arith, inl, inr, lit≤, refl, ap, map, true, false, Some, codes}
 use Rattle.ss_program.proofs.Common.{flat_map, pos, append-nil, Lines, Sessions, Frames, Follow, Each, Create, Value, exp, Happened, added, Stands, acks}
-use Rattle.ss_program.proofs.Common.{begun}
+use Rattle.ss_program.proofs.Common.{begun, sym, ◌∙◌, length, length-append, take-append-le, take_all, Shared}
 use Rattle.hex.specs.Hex.{encode_with}
 use Rattle.std.specs.Fmt.{digits}
 use Rattle.ss_catalog.specs.Names.{is_name}
@@ -45,10 +45,10 @@ ok_of-forms :
 ok_of-forms = refl
 
 -- a stream and its first value
-abbrev created : Happened
+abbrev pub created : Happened
 created = added (Create (codes "a") (exp 2 1 1))
 
-abbrev ten : Happened
+abbrev pub ten : Happened
 ten = added (Value (codes "a") 10 (pos 5))
 
 abbrev lines_of : List (List ℕ)
@@ -84,11 +84,27 @@ unfolding meaning words is_number number_of number_up_to signed_of is_name state
 oks-sessions = refl
 
 -- some first of two, from one on
-one-or_two : (j : ℕ) → 1 ≤ j → j ≤ 2 → (take j (created ∷ ten ∷ []) ≡ created ∷ []) ⊎ (take j (created ∷ ten ∷ []) ≡ created ∷ ten ∷ [])
+pub one-or_two : (j : ℕ) → 1 ≤ j → j ≤ 2 → (take j (created ∷ ten ∷ []) ≡ created ∷ []) ⊎ (take j (created ∷ ten ∷ []) ≡ created ∷ ten ∷ [])
 one-or_two zero some few = absurd (omega (arith, some))
 one-or_two (suc zero) some few = inl refl
 one-or_two (suc (suc zero)) some few = inr refl
 one-or_two (suc (suc (suc j))) some few = absurd (omega (arith, few))
+
+none-or_one : (j : ℕ) → j ≤ 1 → (take j (created ∷ ten ∷ []) ≡ []) ⊎ (take j (created ∷ ten ∷ []) ≡ created ∷ [])
+none-or_one zero few = inl refl
+none-or_one (suc zero) few = inr refl
+none-or_one (suc (suc j)) few = absurd (omega (arith, few))
+
+-- what was read before the second line is the first
+pub read-first : (read others : List ℕ) → read ++ others ≡ text lines_of → Some (codes "append a 10 5" ++ 10 ∷ []) ≡ Some others →
+    (read ≡ codes "create a exp 2 1 1" ++ 10 ∷ []) × (others ≡ codes "append a 10 5" ++ 10 ∷ [])
+read-first read others is rest =
+    let same : others ≡ codes "append a 10 5" ++ 10 ∷ [] = cc in
+    let few : length others ≡ 14 = ap (λ (bs : List ℕ). length bs) same in
+    let all : length (read ++ others) ≡ 33 = ap (λ (bs : List ℕ). length bs) is in
+    let size : length read ≡ 19 = omega (arith, few, all, length-append read others) in
+    let front : take 19 (read ++ others) ≡ read = take-append-le 19 read others (omega (arith, size)) ∙ take_all 19 read (omega (arith, size)) in
+    (sym front ∙ ap (λ bs. take 19 bs) is, same)
 
 -- a framed run of these lines whose sink failed after 7 bytes, in the frame of the first: the image holds the first event
 held-first : (image : List ℕ) → HoldsOks Each (begun (Lines true) []) (text lines_of) (Some []) 7 SinkFault image →
@@ -136,3 +152,27 @@ unfolding ended_lines unended meaning words is_number number_of number_up_to sig
 held-starved image holds =
     let one : holds.j ≡ 1 = holds.starved refl in
     rw (ap (λ j. take j (created ∷ ten ∷ [])) one) at holds.stands.0
+
+-- before the first `ok` is whole it may hold none, or the first, where each event is sealed by itself
+held-none : (image : List ℕ) → HoldsOks Each (begun (Lines true) []) (text lines_of) (Some []) 6 SinkFault image →
+    Stands [] image ⊎ Stands (created ∷ []) image
+unfolding ended_lines unended meaning words is_number number_of number_up_to signed_of is_name state refuses window_index digits encode_with
+    frame_spelled Fields.with_field Numbers.number_bytes
+held-none image holds =
+    let most : holds.j ≤ 1 = holds.at_most refl in
+    elim (none-or_one holds.j most) [
+      | inl none ↦ inl (rw none at holds.stands.0)
+      | inr one ↦ inr (rw one at holds.stands.0)
+    ]
+
+-- in a batch that read the first line alone none but the first
+held-read : (image : List ℕ) → HoldsOks Shared (begun (Lines true) []) (text lines_of) (Some (codes "append a 10 5" ++ 10 ∷ [])) 7 SinkFault image →
+    Stands (created ∷ []) image
+unfolding ended_lines unended meaning words is_number number_of number_up_to signed_of is_name state refuses window_index digits encode_with
+    frame_spelled Fields.with_field Numbers.number_bytes
+held-read image holds =
+    let some : 1 ≤ holds.j = holds.acked in
+    let one = read-first holds.read holds.others holds.are holds.rest in
+    let few : holds.j ≤ 1 = rw (one.0, one.1) at holds.within in
+    let is_one : holds.j ≡ 1 = omega (arith, some, few) in
+    rw (ap (λ j. take j (created ∷ ten ∷ [])) is_one) at holds.stands.0

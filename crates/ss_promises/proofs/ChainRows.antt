@@ -1,11 +1,10 @@
 -- Worked rows of runs over one file, one after the other, computed.
 use Rattle.ss_program.specs.declared.status.Status.TheVariants.{DiskFault, Done}
-use Rattle.ss_program.proofs.Common.{◌≡◌, ◌⊎◌, ◌∙◌, ◌≤◌, ◌++◌, ℕ, List, [], ◌∷◌, length, take, zero, suc, ap, arith, inl, inr, lit≤, refl, false, Some}
-use Rattle.ss_program.proofs.Common.{None, codes, flat_map, pos, negsuc, Lines, Serve, Check, Gen, Each, Create, Value, exp, Happened, added, KnowsNow}
-use Rattle.ss_program.proofs.Common.{DiskView, WhereTold, Stands-unformed, Stands}
-use Rattle.ss_program.proofs.Common.{generated_lines, History, accepted, plain_talk, Result, Bool, true, Ok, Shared, append-nil, sym, length-append}
-use Rattle.ss_program.proofs.Common.{take_all, take-append-le}
-use Rattle.ss_promises.specs.Chained.{AreLinked, Extends, Link, a_run, accepted_of, acked_of, at_a_moment, by_crash, by_itself, bytes_by, making, offered_in}
+use Rattle.ss_program.proofs.Common.{◌≡◌, ◌⊎◌, ◌∙◌, ◌≤◌, ◌++◌, ℕ, List, [], ◌∷◌, length, take, ap, arith, inl, inr, lit≤, refl, false, Some}
+use Rattle.ss_program.proofs.Common.{None, codes, flat_map, negsuc, Lines, Serve, Check, Gen, Each, Value, Happened, added, KnowsNow}
+use Rattle.ss_program.proofs.Common.{DiskView, WhereTold, Stands-unformed, Stands, Told}
+use Rattle.ss_program.proofs.Common.{generated_lines, History, accepted, plain_talk, Result, Bool, true, Ok, Shared, append-nil}
+use Rattle.ss_promises.specs.Chained.{AreLinked, Extends, IsLeftBy, Link, a_run, accepted_of, acked_of, at_a_moment, by_crash, by_itself, bytes_by, making, offered_in}
 use Rattle.hex.specs.Hex.{encode_with}
 use Rattle.ss_codec.specs.Fields as Fields
 use Rattle.ss_fields.specs.Fields as Numbers
@@ -21,15 +20,10 @@ use Rattle.ss_journal.specs.Format.{is_unborn}
 use Rattle.ss_model.specs.Refusals.{refuses}
 use Rattle.ss_model.specs.State.{state}
 use Rattle.ss_targets.specs.Windowing.{window_index}
+use Rattle.ss_promises.proofs.AckedRows.{created, one-or_two, read-first, ten}
 use Rattle.ss_promises.proofs.ChainLemmas.{extends-linked}
 
--- a stream and its first value, and one more value
-abbrev created : Happened
-created = added (Create (codes "a") (exp 2 1 1))
-
-abbrev ten : Happened
-ten = added (Value (codes "a") 10 (pos 5))
-
+-- one more value of the stream
 abbrev twenty : Happened
 twenty = added (Value (codes "a") 20 (negsuc 2))
 
@@ -96,24 +90,6 @@ bytes-crash = refl
 
 bytes-moment : bytes_by at_a_moment (1 ∷ []) (1 ∷ 2 ∷ 3 ∷ 4 ∷ []) ≡ 0
 bytes-moment = refl
-
--- what was read before the second line is the first
-read-first : (read others : List ℕ) → read ++ others ≡ first_input → Some (codes "append a 10 5" ++ 10 ∷ []) ≡ Some others →
-    (read ≡ codes "create a exp 2 1 1" ++ 10 ∷ []) × (others ≡ codes "append a 10 5" ++ 10 ∷ [])
-read-first read others is rest =
-    let same : others ≡ codes "append a 10 5" ++ 10 ∷ [] = cc in
-    let few : length others ≡ 14 = ap (λ (bs : List ℕ). length bs) same in
-    let all : length (read ++ others) ≡ 33 = ap (λ (bs : List ℕ). length bs) is in
-    let size : length read ≡ 19 = omega (arith, few, all, length-append read others) in
-    let front : take 19 (read ++ others) ≡ read = take-append-le 19 read others (omega (arith, size)) ∙ take_all 19 read (omega (arith, size)) in
-    (sym front ∙ ap (λ bs. take 19 bs) is, same)
-
--- some first of two, from one on
-one-or_two : (j : ℕ) → 1 ≤ j → j ≤ 2 → (take j (created ∷ ten ∷ []) ≡ created ∷ []) ⊎ (take j (created ∷ ten ∷ []) ≡ created ∷ ten ∷ [])
-one-or_two zero some few = absurd (omega (arith, some))
-one-or_two (suc zero) some few = inl refl
-one-or_two (suc (suc zero)) some few = inr refl
-one-or_two (suc (suc (suc j))) some few = absurd (omega (arith, few))
 
 -- runs of these inputs, in which each event is sealed by itself
 module _ {D : Type 0} (a b c d : D) (image last : List ℕ) where
@@ -240,6 +216,28 @@ module _ {D : Type 0} (a b c d : D) (image last : List ℕ) where
       let few : ext.j ≤ 1 = rw (one.0, one.1) at read.4 in
       let is_one : ext.j ≡ 1 = omega (arith, acked, few) in
       ext.is ∙ ap (λ j. take j (created ∷ ten ∷ [])) is_one
+
+  batch-read : Extends batch [] (created ∷ [])
+  unfolding ended_lines unended meaning words is_number number_of number_up_to signed_of is_name state refuses window_index digits
+  batch-read = record {
+    j = 1;
+    is = refl;
+    few = lit≤ tt;
+    acked = lit≤ tt;
+    at_most = λ known form each. cc;
+    in_batch = λ known form shared.
+        let same : Lines false ≡ form = cc in
+        rw (← same) (codes "create a exp 2 1 1" ++ 10 ∷ [], codes "append a 10 5" ++ 10 ∷ [], refl, refl, lit≤ tt);
+    done = λ known done. cc;
+    starved = λ known form sealing asked starved. cc;
+  }
+
+  -- what a sink had got by a crash is a front of what it has
+  left-crash : (old new : Told) → new.may_leave image → IsLeftBy (by_crash (1 ∷ [])) old new (1 ∷ 2 ∷ []) image
+  left-crash old new may = (may, (2 ∷ [], refl))
+
+  left-other : (old new : Told) → IsLeftBy (by_crash (3 ∷ [])) old new (1 ∷ 2 ∷ []) image → ⊥
+  left-other old new left = let wrong : 1 ∷ 2 ∷ [] ≡ 3 ∷ left.1.0 = left.1.1 in cc
 
   -- the one that is done holds its event
   after-finished : (history next : History) → offered_in finished history ≡ twenty ∷ [] → Extends finished history next → next ≡ history ++ twenty ∷ []

@@ -7,7 +7,7 @@ pub mod HeardLemmas
 pub mod ConversationLemmas
 pub mod AskedRows
 pub mod AckedLemmas
-mod AckedRows
+pub mod AckedRows
 pub mod FollowedLemmas
 pub mod BrokenLemmas
 mod BrokenRows
