@@ -63,11 +63,6 @@ oks-none talk (line ∷ ls) n zero =
           omega (arith, event, rest))
     ]
 
--- the text of one line and of others
-text_of-cons : (talk : Talk) (line : List ℕ) (ls : List (List ℕ)) →
-    length (text_of talk (line ∷ ls)) ≡ length (turn_of talk line).says + length (text_of (after_line talk line) ls)
-text_of-cons talk line ls = length-append (turn_of talk line).says (text_of (after_line talk line) ls)
-
 -- no more than are accepted of lines whose text has as many bytes
 oks-few : (talk : Talk) (done others : List (List ℕ)) (bytes : ℕ) → bytes ≤ length (text_of talk done) →
     oks talk (done ++ others) bytes ≤ length (accepted talk done)
@@ -82,7 +77,7 @@ oks-few talk (line ∷ done) others bytes few =
     elim (cases_lt bytes ok) [
       | inl less ↦ (let none = cond-false (nat_le ok bytes) more 0 (lt-leb ok bytes less) in omega (arith, none))
       | inr whole ↦ (let some = cond-true (nat_le ok bytes) more 0 (le-leb ok bytes whole) in
-          let few_more = oks-few rest done others (bytes - length says) (omega (arith, few, text_of-cons talk line done)) in
+          let few_more = oks-few rest done others (bytes - length says) (omega (arith, few, length-append says (text_of rest done))) in
           omega (arith, some, few_more, all))
     ]
 
@@ -95,7 +90,7 @@ oks-all talk (line ∷ done) others bytes whole =
     let ok = length (ok_of talk.form says) in
     let event = the_event (turn_of talk line).event in
     let rest = after_line talk line in
-    let both = text_of-cons talk line done in
+    let both = length-append says (text_of rest done) in
     let short = ok_of-short talk.form says in
     let some = cond-true (nat_le ok bytes) (length event + oks rest (done ++ others) (bytes - length says)) 0
     (le-leb ok bytes (omega (arith, whole, both, short))) in
@@ -143,16 +138,16 @@ oks-acks talk done others bytes is =
 
 -- ---- what an image holds
 
--- one line brings one event at most
-event-one : (event : Option Event) → length (the_event event) ≤ 1
-event-one None = omega arith
-event-one (Some event) = omega arith
+-- one event at most, and none behind it
+event-alone : (event : Option Event) (more : List Happened) → length more ≡ 0 → length (the_event event ++ more) ≤ 1
+event-alone None more none = omega (arith, none)
+event-alone (Some event) more none = omega (arith, none, length-append (the_event (Some event)) more)
 
 -- of one line at most one event is accepted, of none no event
 front-one : (talk : Talk) (done left : List (List ℕ)) → length (done ++ left) ≡ 1 → length (accepted talk done) ≤ 1
 front-one talk [] left one = omega arith
 front-one talk (line ∷ []) left one =
-    omega (arith, event-one (turn_of talk line).event, length-append (the_event (turn_of talk line).event) [])
+    event-alone (turn_of talk line).event [] refl
 front-one talk (line ∷ next ∷ done) left one = absurd (omega (arith, one))
 
 module _ (sealing : Sealing) (talk : Talk) (input : List ℕ) (left : Option (List ℕ)) (bytes : ℕ) (status : Status) (image : List ℕ) where
