@@ -97,7 +97,7 @@ next-said : (history : History) (event : Event) (refusal : Option Refusal) → l
 next-said history event None = (append-nil _, refl)
 next-said history event (Some refusal) = (append-nil _, refl)
 
-due-said : (history : History) (frame : FrameState) (due : Due) →
+pub due-said : (history : History) (frame : FrameState) (due : Due) →
     IsSaid history (offered_as due history frame.event) (text_said None (due_brings history frame due)) (due_brings history frame due).event
 due-said history frame Next = next-said history frame.event (refuses (state history) frame.event)
 due-said history frame OldFrame = (append-nil _, refl)
