@@ -16,7 +16,7 @@ use Rattle.ss_program.proofs.EndLemmas.{not-refused}
 use Rattle.ss_program.proofs.HeldLemmas.{accepted-append, acks-done, few-events, first-short, new_bytes, none-cut}
 use Rattle.ss_program.proofs.ReadLemmas.{steps-read}
 use Rattle.ss_program.proofs.SendLemmas.{appended-appended, appended-nil}
-use Rattle.ss_program.proofs.SessionLemmas.{after_lines-append, says-some, text_of-append}
+use Rattle.ss_program.proofs.ReportLemmas.{after_lines-append, says-some, text_of-append}
 use Rattle.ss_program.proofs.StepsLemmas.{steps-front}
 use Rattle.ss_promises.specs.Acked.{HoldsOks, first_line, ok_of, oks}
 

@@ -4,7 +4,8 @@ use Rattle.ss_program.proofs.Common.{◌≡◌, ◌⊎◌, ◌∙◌, ◌≤◌,
 use Rattle.ss_program.proofs.Common.{None, codes, flat_map, negsuc, Lines, Serve, Check, Gen, Each, Value, Happened, added, KnowsNow}
 use Rattle.ss_program.proofs.Common.{DiskView, WhereTold, Stands-unformed, Stands, Told}
 use Rattle.ss_program.proofs.Common.{generated_lines, History, accepted, plain_talk, Result, Bool, true, Ok, Shared, append-nil}
-use Rattle.ss_promises.specs.Chained.{AreLinked, Extends, IsLeftBy, Link, a_run, accepted_of, acked_of, at_a_moment, by_crash, by_itself, bytes_by, making, offered_in}
+use Rattle.ss_promises.specs.Chained.{AreLinked, Extends, IsLeftBy, Link, a_run, accepted_of, acked_of, at_a_moment, by_crash}
+use Rattle.ss_promises.specs.Chained.{by_itself, bytes_by, making, offered_in}
 use Rattle.hex.specs.Hex.{encode_with}
 use Rattle.ss_codec.specs.Fields as Fields
 use Rattle.ss_fields.specs.Fields as Numbers

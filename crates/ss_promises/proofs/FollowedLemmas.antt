@@ -16,7 +16,7 @@ use Rattle.ss_replica.specs.declared.judging.Due.TheVariants.{Old as OldFrame, G
 use Rattle.ss_promises.specs.Followed.{frames_after, offer_reply}
 use Rattle.ss_promises.proofs.ConversationLemmas.{talk-leaves}
 use Rattle.ss_promises.proofs.OwnedLemmas.{own-few}
-use Rattle.ss_program.proofs.SessionLemmas.{after_lines-accepted}
+use Rattle.ss_program.proofs.ReportLemmas.{after_lines-accepted}
 use Rattle.ss_program.proofs.MeantLemmas.{event-or-silent}
 
 -- the frames of more events

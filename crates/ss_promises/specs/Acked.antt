@@ -6,7 +6,7 @@ use Rattle.ss_arguments.specs.declared.mode.Sealing.{Sealing}
 use Rattle.ss_arguments.specs.declared.mode.Sealing.TheVariants.{Each}
 use Rattle.ss_program.specs.Line.{the_event}
 use Rattle.ss_program.specs.Outcome.{steps_within}
-use Rattle.ss_program.specs.Session.{accepted, after_line}
+use Rattle.ss_program.specs.Report.{accepted, after_line}
 use Rattle.ss_program.specs.Steps.{steps}
 use Rattle.ss_program.specs.Talk.{Talk, turn_of}
 use Rattle.ss_program.specs.declared.status.Status.{Status}

@@ -16,7 +16,7 @@ use Rattle.ss_program.specs.Generated.{generated_lines}
 use Rattle.ss_program.specs.Line.{History}
 use Rattle.ss_program.specs.Outcome.{steps_within}
 use Rattle.ss_program.specs.Promises.{ChecksBy, FinishesBy, GeneratesBy, ServesBy}
-use Rattle.ss_program.specs.Session.{accepted}
+use Rattle.ss_program.specs.Report.{accepted}
 use Rattle.ss_program.specs.Status.{exit_number}
 use Rattle.ss_program.specs.Steps.{steps}
 use Rattle.ss_program.specs.Talk.{begun, plain_talk}

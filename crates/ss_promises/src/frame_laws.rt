@@ -15,7 +15,7 @@ ghost use Rattle.ss_store.specs.Recover.{Recovers, Stands};
 ghost use Rattle.ss_promises.specs.Followed.{AreSomeOf, FollowsPrimary, frames_after, frames_within, offer_reply, piece_replies};
 ghost use Rattle.ss_program.specs.Line.{History};
 ghost use Rattle.ss_program.specs.Promises.{BeginsOver, ServesBy};
-ghost use Rattle.ss_program.specs.Session.{accepted, after_lines, report, text_of};
+ghost use Rattle.ss_program.specs.Report.{accepted, after_lines, report, text_of};
 ghost use Rattle.ss_program.specs.Status.{EndsAs};
 ghost use Rattle.ss_program.specs.Steps.{steps};
 ghost use Rattle.ss_program.specs.Talk.{begun};

@@ -21,7 +21,7 @@ ghost use Rattle.ss_program.specs.Line.{History};
 ghost use Rattle.ss_program.specs.Outcome.{steps_within};
 ghost use Rattle.ss_program.specs.Promises.{BeginsOver, ChecksBy, FinishesBy, GeneratesBy, RejectsBy, ServesBy};
 ghost use Rattle.ss_program.specs.Sent.{appended};
-ghost use Rattle.ss_program.specs.Session.{accepted, report, report_so_far};
+ghost use Rattle.ss_program.specs.Report.{accepted, report, report_so_far};
 ghost use Rattle.ss_program.specs.Status.{EndsAs};
 ghost use Rattle.ss_program.specs.Steps.{steps};
 ghost use Rattle.ss_program.specs.Talk.{begun};
