@@ -106,7 +106,7 @@ module _ (test : Fraction → Bool) (c : Corners) where
   first_corner-some P most fewest some before after =
       sooner-some P (test c.fewest) c.fewest early
       (sooner-some P (test c.some) c.some middle
-          (sooner-some P (test c.before) c.before last (sooner-some P (test c.after) c.after c.most.under most after) before) some)
+      (sooner-some P (test c.before) c.before last (sooner-some P (test c.after) c.after c.most.under most after) before) some)
       fewest
 
 -- ---- means that are the same number
@@ -295,7 +295,7 @@ module _ (side : Side) {Better : Fraction → Fraction → Type 0} (order : IsOr
       (AreSame-sym every at_corners all-found)))
       (λ v same. decided-same (with_corner v) at_corners
       (AreSame-trans (with_corner v) (some v) at_corners (AreSame-sym (some v) (with_corner v) (with-found v))
-          (AreSame-trans (some v) every at_corners same all-found)))
+      (AreSame-trans (some v) every at_corners same all-found)))
 
 pub computed-least : (known : Fraction) (s : SplitFigures) (t : Option SplitFigures) (c : Corners) (d : Option Corners)
     → AreCornersOf side.Least (Some s) (Some c) → AreCornersOf side.Least t d

@@ -123,7 +123,7 @@ low-HoldsMean known v splits all reached =
     let parted = low-parted known v splits all reached in
     subst (HoldsMean (mean_interval known splits)) parted.together
     (subst (λ l. HoldsMean (mean_interval known l) (all_together known parted.windows)) parted.figures
-        (mean_interval-HoldsMean known parted.windows parted.may))
+    (mean_interval-HoldsMean known parted.windows parted.may))
 
 abbrev pub AreInOrder : Mean → Type 0
 AreInOrder Nothing = Unit {0}

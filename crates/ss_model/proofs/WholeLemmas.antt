@@ -164,7 +164,7 @@ whole-unsplit streams query step state within whole =
 
 pub whole-exact : (streams : List Stream) (query : Query) (step : ℕ) (outcome : Outcome) → IsState streams →
     IsWithin step streams query.name → AreWholeSteps step (reached_by streams query.name) query.from query.to → outcome_of streams query ≡ Some outcome →
-        IsExactOutcome outcome
+    IsExactOutcome outcome
 whole-exact streams query step outcome state within whole answered =
     answer-exact streams query outcome answered (whole-unsplit streams query step state within whole)
 
@@ -198,7 +198,7 @@ whole-row step newest series row whole = record {
 
 pub whole-rows : (streams : List Stream) (series : Series) (step row : ℕ) (outcome : Outcome) → IsState streams →
     IsWithin step streams series.name → HasWholeRows step (reached_by streams series.name) series →
-        outcome_of streams (row_query series row) ≡ Some outcome → IsExactOutcome outcome
+    outcome_of streams (row_query series row) ≡ Some outcome → IsExactOutcome outcome
 whole-rows streams series step row outcome state within whole answered =
     whole-exact streams (row_query series row) step outcome state within
     (whole-row step (reached_by streams series.name) series row whole) answered

@@ -92,7 +92,7 @@ module _ (part : StreamParts) (s : Stream) (agrees : Agrees part s) where
   -- what is told by the newest window
   pub newest_of-read : (at : At) → newest_place part ≡ Some at → index_of part.line.entries at + 1 ≡ length part.line.entries → (placed : Placed)
       → slice_get (map placed_of s.windows) (index_of part.line.entries at) ≡ Some placed →
-          newest_of s ≡ newest_told part.last_time (Some (known_placed placed))
+      newest_of s ≡ newest_told part.last_time (Some (known_placed placed))
   newest_of-read at some last placed shown =
       let value = newest_value part.landmarks.landmarks in
       let newest = known-read value (last_or None part.line.entries) (last_or None s.windows) at alike-last some in

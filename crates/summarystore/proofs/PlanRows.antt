@@ -79,8 +79,15 @@ planned-sessions : planned (over_s (codes "sessions" ∷ [])) ≡ runs (codes "s
 unfolding asked_words
 planned-sessions = refl
 
-planned-no_words : planned [] ≡ Runs (record { words = []; path = []; missing = Make; demand = demand.Nothing; explains = false; is_strict = false;
-    form = Lines false })
+planned-no_words : planned [] ≡ Runs (record {
+  words = [];
+  path = [];
+  missing = Make;
+  demand = demand.Nothing;
+  explains = false;
+  is_strict = false;
+  form = Lines false;
+})
 unfolding asked_words
 planned-no_words = refl
 
