@@ -35,6 +35,6 @@ returns-clause-right g c taken =
     let w = c.in_ok-evidence.evidence in (
       w,
       c.in_ok-evidence.ensures.right,
-      ap (λ r. r ∷ c.sides_of-lines.result.items) c.head.ensures
+      λ parts streams. ap (λ r. r ∷ c.sides_of-lines.result.items) c.head.ensures
           ∙ ap (λ rs. head_of w ∷ rs) c.sides_of-lines.ensures,
     )
