@@ -17,10 +17,10 @@ int32_t summarystore_held_open(const unsigned char *path, size_t length, uint32_
 /* Frees the box, and answers what sealing answered. */
 int32_t summarystore_held_close(struct held *held);
 
-int32_t summarystore_held_status(const struct held *held);
+int32_t summarystore_held_status(struct held *held);
 
 /* Puts what there is to say of the stop into the room, as much as fits, and answers how many bytes these are. */
-size_t summarystore_held_message(const struct held *held, unsigned char *room, size_t size);
+size_t summarystore_held_message(struct held *held, unsigned char *room, size_t size);
 
 /* `size` is at least 512, so that a line of a reply fits. */
 int32_t summarystore_held_call(struct held *held, const unsigned char *line, size_t length, unsigned char *room, size_t size, size_t *filled);

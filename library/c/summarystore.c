@@ -78,7 +78,7 @@ int summarystore_close(summarystore *connection)
 
 int summarystore_status(const summarystore *connection)
 {
-    return connection != NULL ? summarystore_held_status(&connection->held) : SUMMARYSTORE_MISUSE;
+    return connection != NULL ? summarystore_held_status((struct held *)&connection->held) : SUMMARYSTORE_MISUSE;
 }
 
 const char *summarystore_message(const summarystore *connection)
