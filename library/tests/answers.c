@@ -169,6 +169,8 @@ void try_threads(void)
 void try_words(void)
 {
     HOLDS(strcmp(summarystore_version(), SUMMARYSTORE_VERSION) == 0);
+    HOLDS(sizeof(summarystore_text) == 16 && sizeof(summarystore_ack) == 16 && sizeof(summarystore_target) == 24);
+    HOLDS(sizeof(summarystore_number) == 24 && sizeof(summarystore_interval) == 80 && sizeof(summarystore_newest) == 40);
     HOLDS(strcmp(summarystore_refusal(SUMMARYSTORE_REFUSED_LINE), "LINE") == 0);
     HOLDS(strcmp(summarystore_refusal(SUMMARYSTORE_REFUSED_UNKNOWN), "UNKNOWN") == 0);
     HOLDS(strcmp(summarystore_refusal(SUMMARYSTORE_REFUSED_STORE_FULL), "STORE_FULL") == 0);
