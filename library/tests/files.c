@@ -105,25 +105,25 @@ static int apart(int (*what)(void))
     return child > 0 && waitpid(child, &status, 0) == child && WIFEXITED(status) ? WEXITSTATUS(status) : -1;
 }
 
+/* What a process that ends has open then. */
+static summarystore *open_then;
+
 static int append_and_end(void)
 {
-    summarystore *store;
-    return summarystore_open(NAMED("ended.store"), 0, &store) != SUMMARYSTORE_DONE ||
-           summarystore_append(store, "a", 1, 40, 1, NULL) != SUMMARYSTORE_DONE;
+    return summarystore_open(NAMED("ended.store"), 0, &open_then) != SUMMARYSTORE_DONE ||
+           summarystore_append(open_then, "a", 1, 40, 1, NULL) != SUMMARYSTORE_DONE;
 }
 
 static int seal_and_end(void)
 {
-    summarystore *store;
-    return summarystore_open(NAMED("ended.store"), SUMMARYSTORE_BATCH, &store) != SUMMARYSTORE_DONE ||
-           summarystore_append(store, "a", 1, 50, 1, NULL) != SUMMARYSTORE_DONE || summarystore_seal(store) != SUMMARYSTORE_DONE ||
-           summarystore_append(store, "a", 1, 60, 1, NULL) != SUMMARYSTORE_DONE || counted(store, "a") != 6;
+    return summarystore_open(NAMED("ended.store"), SUMMARYSTORE_BATCH, &open_then) != SUMMARYSTORE_DONE ||
+           summarystore_append(open_then, "a", 1, 50, 1, NULL) != SUMMARYSTORE_DONE || summarystore_seal(store) != SUMMARYSTORE_DONE ||
+           summarystore_append(open_then, "a", 1, 60, 1, NULL) != SUMMARYSTORE_DONE || counted(open_then, "a") != 6;
 }
 
 static int open_what_is_open(void)
 {
-    summarystore *store;
-    return summarystore_open(NAMED("ended.store"), 0, &store);
+    return summarystore_open(NAMED("ended.store"), 0, &open_then);
 }
 
 /* What is durable when a process ends: each event, and in a batch what was sealed. */
