@@ -117,7 +117,7 @@ static int append_and_end(void)
 static int seal_and_end(void)
 {
     return summarystore_open(NAMED("ended.store"), SUMMARYSTORE_BATCH, &open_then) != SUMMARYSTORE_DONE ||
-           summarystore_append(open_then, "a", 1, 50, 1, NULL) != SUMMARYSTORE_DONE || summarystore_seal(store) != SUMMARYSTORE_DONE ||
+           summarystore_append(open_then, "a", 1, 50, 1, NULL) != SUMMARYSTORE_DONE || summarystore_seal(open_then) != SUMMARYSTORE_DONE ||
            summarystore_append(open_then, "a", 1, 60, 1, NULL) != SUMMARYSTORE_DONE || counted(open_then, "a") != 6;
 }
 
