@@ -55,12 +55,13 @@ enum {
     SUMMARYSTORE_REFUSED_FRAME = 144
 };
 
-/* How a store is opened. They may be added, but no LOOK to another than EXISTING. */
+/* How a store is opened. They may be added, but LOOK to EXISTING alone. */
 enum {
     SUMMARYSTORE_EXISTING = 1, /* makes no store: where there is none the answer is SUMMARYSTORE_DISK_FAULT */
     SUMMARYSTORE_CHECKED = 2,  /* makes a store with checksums where there is none; where a plain one stands, SUMMARYSTORE_DISK_FAULT */
     SUMMARYSTORE_BATCH = 4,    /* typed events wait until they are sealed */
-    SUMMARYSTORE_LOOK = 8      /* writes nothing, and shares the file with others that only look */
+    SUMMARYSTORE_LOOK = 8      /* writes nothing, and shares the file with others that only look. Where a connection before left work in the
+                                  journal, as each does that stored something, SUMMARYSTORE_DISK_FAULT: open and close it once without LOOK */
 };
 
 /* What a query asks for. */
@@ -142,7 +143,8 @@ int summarystore_call(summarystore *connection, const char *line, size_t length,
 /* Further rows of the last call's reply; a length of 0 says that there are no more. Any other call but `status` and `message` ends them. */
 int summarystore_next(summarystore *connection, summarystore_text *rows);
 
-/* Typed events. Each is durable when it returns, but in a batch when it is sealed. The `ack` may be null. */
+/* Typed events. Each is durable when it returns, but in a batch when it is sealed. The `ack` may be null. The reasons for which one is refused
+ * are tested in the order in which they are told. */
 
 /* Makes a stream. Refused by NAME, PARAM, EXISTS, STREAMS or STORE_FULL. */
 int summarystore_create(summarystore *connection, const char *name, size_t length, const summarystore_target *target, summarystore_ack *ack);
@@ -159,7 +161,8 @@ int summarystore_append_many(summarystore *connection, const char *name, size_t 
 /* Makes durable what waits. Without a batch nothing does. */
 int summarystore_seal(summarystore *connection);
 
-/* Questions. They count what waits too. Refused by NUMBER (a time above 2^62), NAME, UNKNOWN or RANGE (`to` is less than `from`). */
+/* Questions. They count what waits too. Refused by NUMBER (a time above 2^62), NAME, UNKNOWN or RANGE (`to` is less than `from`), and by the
+ * first of these that applies. */
 
 /* What is known of the values with times from `from` to `to`, both included. */
 int summarystore_query(summarystore *connection, const char *name, size_t length, int kind, uint64_t from, uint64_t to,

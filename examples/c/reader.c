@@ -3,7 +3,7 @@
  *     cc reader.c $(pkg-config --cflags --libs summarystore) -o reader
  *     ./reader room.store hall 1764374400 1764460799
  *
- * It only looks, so several may do so at once, while nobody writes. Each line has the two ends between which the truth lies. */
+ * Each line has the two ends between which the truth lies. The store isn't made where there is none. */
 #include <inttypes.h>
 #include <stdio.h>
 #include <string.h>
@@ -24,7 +24,7 @@ int main(int count, char **words)
 
     if (count != 5 || sscanf(words[3], "%19" SCNu64, &from) != 1 || sscanf(words[4], "%19" SCNu64, &to) != 1)
         return fprintf(stderr, "usage: reader STORE NAME FROM TO\n"), 2;
-    int status = summarystore_open(words[1], strlen(words[1]), SUMMARYSTORE_EXISTING | SUMMARYSTORE_LOOK, &store);
+    int status = summarystore_open(words[1], strlen(words[1]), SUMMARYSTORE_EXISTING, &store);
     for (int kind = SUMMARYSTORE_COUNT; status == SUMMARYSTORE_DONE && kind <= SUMMARYSTORE_MEAN; kind++) {
         status = summarystore_query(store, words[2], strlen(words[2]), kind, from, to, &answer);
         if (status != SUMMARYSTORE_DONE)

@@ -105,8 +105,8 @@ static int apart(int (*what)(void))
     return child > 0 && waitpid(child, &status, 0) == child && WIFEXITED(status) ? WEXITSTATUS(status) : -1;
 }
 
-/* What a process that ends has open then. */
-static summarystore *open_then;
+/* What a process that ends has open then, and what the one before it has. */
+static summarystore *open_then, *open_before;
 
 static int append_and_end(void)
 {
@@ -132,21 +132,21 @@ void try_ends(void)
     uint64_t count;
     HOLDS(summarystore_close(begun("ended.store", 0)) == SUMMARYSTORE_DONE);
     HOLDS(apart(append_and_end) == 0);
-    summarystore *store = opened("ended.store", 0);
-    HOLDS(counted(store, "a") == 4);
+    open_before = opened("ended.store", 0);
+    HOLDS(counted(open_before, "a") == 4);
     HOLDS(apart(open_what_is_open) == SUMMARYSTORE_BUSY);
-    HOLDS(summarystore_close(store) == SUMMARYSTORE_DONE);
+    HOLDS(summarystore_close(open_before) == SUMMARYSTORE_DONE);
     HOLDS(apart(seal_and_end) == 0);
-    store = opened("ended.store", SUMMARYSTORE_BATCH);
-    count = counted(store, "a");
+    open_before = opened("ended.store", SUMMARYSTORE_BATCH);
+    count = counted(open_before, "a");
     HOLDS(count == 5 || count == 6);
-    HOLDS(summarystore_append(store, "a", 1, 70, 1, NULL) == SUMMARYSTORE_DONE && counted(store, "a") == count + 1);
-    HOLDS(says(store, "append a 80 1", count == 5 ? "ok 7 4\n" : "ok 8 4\n") || counted(store, "a") == count + 2);
-    HOLDS(summarystore_append(store, "a", 1, 80, 1, NULL) == SUMMARYSTORE_REFUSED_TIME);
-    HOLDS(summarystore_append(store, "a", 1, 90, 1, NULL) == SUMMARYSTORE_DONE);
-    HOLDS(summarystore_close(store) == SUMMARYSTORE_DONE);
-    store = opened("ended.store", 0);
-    HOLDS(counted(store, "a") == count + 3 && summarystore_close(store) == SUMMARYSTORE_DONE);
+    HOLDS(summarystore_append(open_before, "a", 1, 70, 1, NULL) == SUMMARYSTORE_DONE && counted(open_before, "a") == count + 1);
+    HOLDS(says(open_before, "append a 80 1", count == 5 ? "ok 7 4\n" : "ok 8 4\n") || counted(open_before, "a") == count + 2);
+    HOLDS(summarystore_append(open_before, "a", 1, 80, 1, NULL) == SUMMARYSTORE_REFUSED_TIME);
+    HOLDS(summarystore_append(open_before, "a", 1, 90, 1, NULL) == SUMMARYSTORE_DONE);
+    HOLDS(summarystore_close(open_before) == SUMMARYSTORE_DONE);
+    open_before = opened("ended.store", 0);
+    HOLDS(counted(open_before, "a") == count + 3 && summarystore_close(open_before) == SUMMARYSTORE_DONE);
 }
 
 /* Appends until the file can't grow: the status of the stop where all later calls answer it too, and else 0. */
