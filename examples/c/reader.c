@@ -12,7 +12,10 @@
 /* The nearest number that C has. Whoever needs all of it takes its three parts. */
 static double nearest(summarystore_number number)
 {
-    return ((double)number.high * 18446744073709551616.0 + (double)number.low) / (double)number.under;
+    const double limb = 18446744073709551616.0;
+    double over = number.high >= 0 ? (double)number.high * limb + (double)number.low
+                                   : -((double)~number.high * limb + (double)~number.low + 1);
+    return over / (double)number.under;
 }
 
 int main(int count, char **words)
