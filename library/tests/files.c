@@ -10,10 +10,20 @@
 #include <sys/wait.h>
 #include <unistd.h>
 
+/* Where the records begin: docs/FORMAT.md. */
+#define FIRST_SLOT 36864
+
 static void write_file(const char *path, const void *bytes, size_t length)
 {
     FILE *file = fopen(path, "wb");
     HOLDS(file != NULL && fwrite(bytes, 1, length, file) == length && fclose(file) == 0);
+}
+
+/* Changes a byte of a file. */
+static void spoil(const char *path, long place)
+{
+    FILE *file = fopen(path, "r+b");
+    HOLDS(file != NULL && fseek(file, place, SEEK_SET) == 0 && fputc(0xff, file) == 0xff && fclose(file) == 0);
 }
 
 static int has_bytes(const char *path, const void *bytes, size_t length)
@@ -50,6 +60,11 @@ void try_files(void)
     summarystore_close(store);
     write_file("zeros", zeros, sizeof zeros);
     HOLDS(summarystore_open(NAMED("zeros"), 0, &store) == SUMMARYSTORE_DONE || has_message(store, "isn't formatted"));
+    summarystore_close(store);
+    HOLDS(summarystore_close(begun("damaged.store", 0)) == SUMMARYSTORE_DONE);
+    HOLDS(summarystore_close(opened("damaged.store", 0)) == SUMMARYSTORE_DONE);
+    spoil("damaged.store", FIRST_SLOT);
+    HOLDS(summarystore_open(NAMED("damaged.store"), 0, &store) == SUMMARYSTORE_REFUSED_STORE && has_message(store, "damaged slot 0"));
     summarystore_close(store);
     store = begun("locked.store", 0);
     HOLDS(summarystore_open(NAMED("locked.store"), 0, &second) == SUMMARYSTORE_BUSY && has_message(second, "another process uses it"));
