@@ -4,10 +4,12 @@
 mod asking;
 mod cut;
 mod means;
+mod outcomes;
 mod presence;
 mod walking;
 
-pub use asking::{Seen, outcome_seen};
+pub use asking::Seen;
 pub use cut::Cut;
+pub use outcomes::outcome_seen;
 pub use ss_model::{Outcome, Presence};
 pub use walking::see_from;

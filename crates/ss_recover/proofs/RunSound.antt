@@ -1,12 +1,12 @@
 -- The records of a number are sound, among those of others, where they are a run.
 use Rattle.ss_recover.proofs.Common.{[], ◌&&◌, ◌*◌, ◌++◌, ◌+◌, ◌<◌, ◌==◌, ◌^◌, ◌||◌, ◌∙◌, ◌∷◌, ◌≡◌, ◌≤◌, AllByRecursion, and-true, and_right, ap, append-nil}
 use Rattle.ss_recover.proofs.Common.{ap₂, are_marks, arith, Bool, cond_both, Created, created_by, drop, each-behind, each-front, eq-eqb, eqb-true, false}
-use Rattle.ss_recover.proofs.Common.{filter-append, filter_map, filter_map-append, Found, found_key, found_number, Free, has_new_name, has_one_record}
+use Rattle.ss_recover.proofs.Common.{filter-append, filter_map, filter_map-append, Found, found_key, found_number, has_new_name, has_one_record}
 use Rattle.ss_recover.proofs.Common.{has_place, has_sound_values_in_order, has_sound_values_within, is_drop_of, is_dropped, is_mark_of, is_own, is_run}
 use Rattle.ss_recover.proofs.Common.{is_sound_in_order, IsUsable, keep_own_step, keep_step, landmarks_made, length, length-map, lies_free, List}
 use Rattle.ss_recover.proofs.Common.{list_all, list_any, list_any-append, map, map-append, marks_in, MOST_STREAMS, nat_lt, nat_tests, ne_eqb, not, or-false}
 use Rattle.ss_recover.proofs.Common.{or_from, run_len, place_of, Record, refl, Rises, same_name, step_number, stream_of, streams_created, subst, suc}
-use Rattle.ss_recover.proofs.Common.{sym, take, take-append-drop, tile, times_rise, true, Value, Window, window_of, window_record, windows_in, without_slots}
+use Rattle.ss_recover.proofs.Common.{sym, take, take-append-drop, tile, times_rise, true, Window, window_of, window_record, windows_in, without_slots}
 use Rattle.ss_recover.proofs.Common.{ℕ}
 use Rattle.ss_model.proofs.FoundLemmas.{each-append}
 use Rattle.ss_codec.specs.declared.record.Record.TheVariants as records

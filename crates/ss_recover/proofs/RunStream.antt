@@ -5,7 +5,7 @@ use Rattle.ss_recover.proofs.Common.{false, filter-append, filter_map, Found, fo
 use Rattle.ss_recover.proofs.Common.{is_own, is_run, is_sound_in_order, IsDistinct, IsDistinct-cons, IsDistinct-from_apart, IsState, IsStream, IsUsable}
 use Rattle.ss_recover.proofs.Common.{keep_step, landmarks_made, length, length-append, length-drop, length-filter, length-map, lies_free, List, list_all}
 use Rattle.ss_recover.proofs.Common.{list_any, list_any-append, live, ltb-true, map, map-append, marks_in, MOST_RECORDS, MOST_STREAMS, names_of, nat_lt, not}
-use Rattle.ss_recover.proofs.Common.{not-true, or-false, or_parts, run_len, Record, records_of, refl, Rises, same_name, same_name-swap, step_number, Stream}
+use Rattle.ss_recover.proofs.Common.{not-true, or-false, or_parts, run_len, Record, refl, Rises, same_name, same_name-swap, step_number, Stream}
 use Rattle.ss_recover.proofs.Common.{stream_made, stream_of, streams_made, streams_standing, subst, suc, sum_by-cons, sym, take, take-append-drop, tile}
 use Rattle.ss_recover.proofs.Common.{times_rise, true, Window, window_record, windows_in, without_slots, zero, ℕ}
 use Rattle.ss_recover.proofs.HeldRecords.{all_walked, walked}

@@ -1,7 +1,7 @@
 -- Which numbers are sound in some records, where they are in others that have the same of them.
 use Rattle.ss_recover.proofs.Common.{[], ◌&&◌, ◌+◌, ◌==◌, ◌||◌, ◌∙◌, ◌∷◌, ◌≡◌, ◌≤◌, ◌⊎◌, AllByRecursion, and_from, and_parts, ap, are_marks, arith, Bool}
 use Rattle.ss_recover.proofs.Common.{carries, cases_Bool, cond, cond-true, cons_option, count_by, Created, created_by, eqb-true, false, false_from_ne_true}
-use Rattle.ss_recover.proofs.Common.{filter, filter_map, Free, has_sound_values, in_order, inl, inr, is_drop_of, is_dropped, is_mark_of, judged, keep_own_step}
+use Rattle.ss_recover.proofs.Common.{filter, filter_map, has_sound_values, in_order, inl, inr, is_drop_of, is_dropped, is_mark_of, judged, keep_own_step}
 use Rattle.ss_recover.proofs.Common.{landmarks_made, lies_free, List, list_all, list_any, lowest_bad_stream, lowest_in, map, marks_carried, None, not, Option}
 use Rattle.ss_recover.proofs.Common.{option_map_or, or_cases, or_left, or_parts, or_right, place_of, Record, refl, Some, stands_by, stands_sound, Stream}
 use Rattle.ss_recover.proofs.Common.{stream_carried, stream_number, streams_carried, streams_created, streams_standing, sum_by-cons, sym, tile, times_rise}

@@ -1,7 +1,7 @@
 -- Which numbers are sound doesn't hang on the order of the records.
 use Rattle.ss_recover.proofs.Common.{[], ◌&&◌, ◌*◌, ◌+◌, ◌<◌, ◌==◌, ◌^◌, ◌||◌, ◌∙◌, ◌∷◌, ◌≡◌, ◌≤◌, ◌⊎◌, All-from_recursion, All-permutation, AllByRecursion}
 use Rattle.ss_recover.proofs.Common.{ap, ap₂, are_marks, arith, Bool, cases_Bool, cases_lt, cond-false, cond-true, cond_both, cons_option, Created, created_by}
-use Rattle.ss_recover.proofs.Common.{eq-eqb, eqb-true, false, filter, filter_map, fold, Free, in_order, inl, inr, is_drop_of, is_mark_of, is_sound_in_order}
+use Rattle.ss_recover.proofs.Common.{eq-eqb, eqb-true, false, filter, filter_map, fold, in_order, inl, inr, is_drop_of, is_mark_of, is_sound_in_order}
 use Rattle.ss_recover.proofs.Common.{IsLowestUnsound, IsPermutation, IsPermutation-sym, IsUsable, keep_own_step, key_of, landmarks_made, le-leb, leb}
 use Rattle.ss_recover.proofs.Common.{leb-false, leb-true, lies_free, List, list_all, list_any, list_any-IsPermutation, lowest_bad_stream, lowest_in, lt-leb}
 use Rattle.ss_recover.proofs.Common.{map, marks_carried, min, None, not, Option, or_cases, or_left, or_right, place_of, put_in_order, Record}
