@@ -136,11 +136,12 @@ int summarystore_status(const summarystore *connection);
 const char *summarystore_message(const summarystore *connection);
 
 /* Does one line of the program's grammar, which may end in a line end but has none inside. The reply is the text that the program prints: a
- * refusal is a reply, and the answer is then 0. A line without words, and a comment, have a reply of no bytes. Of a reply in rows this is the
- * front, and `summarystore_next` has the rest. What the line changes, and what waited, is durable when the call returns. */
+ * refusal is a reply, and the answer is then 0. A line without words, and a comment, have a reply of no bytes. Of a reply in rows these are the
+ * first lines, and `summarystore_next` has the rest. What the line changes, and what waited, is durable when the call returns. */
 int summarystore_call(summarystore *connection, const char *line, size_t length, summarystore_text *reply);
 
-/* Further rows of the last call's reply; a length of 0 says that there are no more. Any other call but `status` and `message` ends them. */
+/* Further rows of the last call's reply, whole lines; a length of 0 says that there are no more. Any other call but `status` and `message`
+ * ends them. */
 int summarystore_next(summarystore *connection, summarystore_text *rows);
 
 /* Typed events. Each is durable when it returns, but in a batch when it is sealed. The `ack` may be null. The reasons for which one is refused

@@ -22,7 +22,7 @@ int32_t summarystore_held_status(struct held *held);
 /* Puts what there is to say of the stop into the room, as much as fits, and answers how many bytes these are. */
 size_t summarystore_held_message(struct held *held, unsigned char *room, size_t size);
 
-/* `size` is at least 512, so that a line of a reply fits. */
+/* Of a reply in rows at most 16,384 bytes are said at once. With so much room each piece ends at the end of a line. */
 int32_t summarystore_held_call(struct held *held, const unsigned char *line, size_t length, unsigned char *room, size_t size, size_t *filled);
 int32_t summarystore_held_next(struct held *held, unsigned char *room, size_t size, size_t *filled);
 

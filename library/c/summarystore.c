@@ -7,6 +7,7 @@
 
 #define LONGEST_NAME 32
 #define LONGEST_PATH 4096
+#define MOST_SAID 16384
 #define KNOWN_FLAGS (SUMMARYSTORE_EXISTING | SUMMARYSTORE_CHECKED | SUMMARYSTORE_BATCH | SUMMARYSTORE_LOOK)
 
 typedef unsigned char byte;
@@ -14,7 +15,7 @@ typedef unsigned char byte;
 struct summarystore {
     struct held held;
     char message[LONGEST_PATH + 256];
-    char text[16384 + 1];
+    char text[MOST_SAID + 1];
 };
 
 /* Keeps what there is to say of a stop, and hands the answer on. */
@@ -105,7 +106,7 @@ int summarystore_call(summarystore *connection, const char *line, size_t length,
         return SUMMARYSTORE_MISUSE;
     size_t filled = 0;
     int answer = summarystore_held_call(&connection->held, (const byte *)line, length, (byte *)connection->text,
-                                        sizeof connection->text - 1, &filled);
+                                        MOST_SAID, &filled);
     return shown(connection, answer, filled, reply);
 }
 
@@ -114,7 +115,7 @@ int summarystore_next(summarystore *connection, summarystore_text *rows)
     if (connection == NULL || rows == NULL)
         return SUMMARYSTORE_MISUSE;
     size_t filled = 0;
-    int answer = summarystore_held_next(&connection->held, (byte *)connection->text, sizeof connection->text - 1, &filled);
+    int answer = summarystore_held_next(&connection->held, (byte *)connection->text, MOST_SAID, &filled);
     return shown(connection, answer, filled, rows);
 }
 
