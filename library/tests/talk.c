@@ -7,6 +7,8 @@
 #include <stdlib.h>
 #include <string.h>
 #include <summarystore.h>
+#include <sys/stat.h>
+#include <unistd.h>
 
 #define MOST_ROWS 100000
 
@@ -270,8 +272,11 @@ int main(int count, char **words)
     int is_by_types = count > 3 && strcmp(words[3], "typed") == 0;
     int answer = summarystore_open(words[1], strlen(words[1]), (unsigned)atoi(words[2]), &store);
     go_on(answer);
-    char beside[5000];
-    snprintf(beside, sizeof beside, "%s.other", words[1]);
+    /* The other store lies in a folder of its own. */
+    char folder[5000], beside[5020];
+    snprintf(folder, sizeof folder, "%s.folder", words[1]);
+    snprintf(beside, sizeof beside, "%s/other", folder);
+    mkdir(folder, 0700);
     go_on(summarystore_open(beside, strlen(beside), 0, &other));
     while ((length = getline(&line, &room, stdin)) > 0) {
         /* Every second line goes without its line end. */
@@ -284,6 +289,7 @@ int main(int count, char **words)
     free(line);
     summarystore_close(other);
     remove(beside);
+    rmdir(folder);
     answer = summarystore_close(store);
     if (answer != SUMMARYSTORE_DONE)
         fprintf(stderr, "closing: %d\n", answer);
