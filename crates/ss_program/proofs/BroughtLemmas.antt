@@ -7,7 +7,7 @@ use Rattle.ss_program.proofs.Common.{StandsAround, StandsWithin, appended, after
 use Rattle.ss_program.proofs.Common.{turn_of, Cursors, Sealing, Each, Shared, Seals, Status, OutOfMemory, TakesStarved, Step, disk_verdict}
 use Rattle.ss_program.proofs.AmidLemmas.{GoesAmid-none, Takes-next, Takes-then, said-all}
 use Rattle.ss_program.proofs.SealLemmas.{line-moments, line-owed, line-stopped}
-use Rattle.ss_program.proofs.SessionLemmas.{StopsIn-more, after_lines-push, moments-more, text_of-one, text_of-push}
+use Rattle.ss_program.proofs.ReportLemmas.{StopsIn-more, after_lines-push, moments-more, text_of-one, text_of-push}
 use Rattle.ss_program.proofs.StagingLemmas.{Turns-looked}
 use Rattle.ss_program.specs.declared.replies.Seals.TheVariants as seal
 

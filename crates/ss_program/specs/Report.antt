@@ -1,4 +1,4 @@
--- A session: what is said to an input after a history, and which events are accepted of it.
+-- The report of an input: what is said to it after a history, and which events are accepted of it.
 use Rattle.std.specs.Prelude.{◌≢◌, ℕ, List, [], ◌∷◌, ◌++◌, All, Some, Ok}
 use Rattle.ss_catalog.specs.declared.event.Event.TheVariants.{Create}
 use Rattle.ss_catalog.specs.declared.params.Params.{Params}

@@ -3,7 +3,7 @@ use Rattle.ss_query.specs.Asked.{seen_sum}
 use Rattle.ss_summary.specs.Figures.{Figures}
 use Rattle.std.specs.Prelude.{◌+ℤ◌, Option}
 use Rattle.ss_query.proofs.NearSums.{known-fits, known-held, known-near, sum-near}
-use Rattle.ss_query.proofs.outcomes.known_sum.Goals as goal
+use Rattle.ss_query.proofs.answering.known_sum.Goals as goal
 
 pub overflow_add-result : goal.overflow_add-result
 overflow_add-result c = known-fits c.summary.inside.sum c.args.marked.sum (sum-near _ c.summary.invariant) c.requires.sum

@@ -4,7 +4,7 @@ ghost use Rattle.ss_outside.specs.Step.{Step};
 ghost use Rattle.ss_outside.specs.Verdict.{Counted};
 ghost use Rattle.ss_program.specs.Amid.{IsAtRest};
 ghost use Rattle.ss_program.specs.Answer.{IsOpen};
-ghost use Rattle.ss_program.specs.Progress.{EndsSession, NoneWait, TakesPiece, sealing_by};
+ghost use Rattle.ss_program.specs.Progress.{EndsInputRun, NoneWait, TakesPiece, sealing_by};
 ghost use Rattle.ss_program.specs.Steps.{kept_so_far};
 ghost use Rattle.ss_program.specs.Status.{disk_verdict, ended, sink_verdict, IsStop};
 ghost use Rattle.ss_sessions.specs.Cursors.{no_cursors};
@@ -16,35 +16,35 @@ use crate::taking::{finish_lines, take_piece};
 use crate::talk::Talk;
 use ss_arguments::{Form, Sealing};
 use ss_outside::{Disk, Sink};
-use ss_sessions::Sessions;
+use ss_sessions::OpenCursors;
 use ss_store::Store;
 use std::alloc::{AllocError, Global};
 use std::marker::Model;
 
 /// A conversation that goes on, and the reader that cuts the input into its lines.
 #[derive(Drop)]
-pub struct Session {
+pub struct InputRun {
     talk: Talk,
     reader: StepReader,
 }
 
-impl Model for Session {
-    ghost use Rattle.ss_program.specs.Amid.{session_state};
-    ghost use Rattle.ss_program.specs.Progress.{SessionState};
+impl Model for InputRun {
+    ghost use Rattle.ss_program.specs.Amid.{input_run_state};
+    ghost use Rattle.ss_program.specs.Progress.{InputRunState};
 
-    ghost Value = { SessionState };
+    ghost Value = { InputRunState };
 
-    ghost view = { λ s. session_state s.talk s.reader };
+    ghost view = { λ s. input_run_state s.talk s.reader };
 }
 
-impl Session {
+impl InputRun {
     /// A session at the front of its input. It takes memory where events share seals.
     pub fn start(
         alloc: Global,
         store: Store,
         form: Form,
         sealing: Sealing,
-    ) -> Result<Session, AllocError>
+    ) -> Result<InputRun, AllocError>
         ensures store { IfOk result (λ session. session.store ≡ store) }
         ensures line { IfOk result (λ session. session.line ≡ kept_so_far form []) }
         ensures form { IfOk result (λ session. (session.form ≡ form) × (session.cursors ≡ no_cursors)) }
@@ -56,11 +56,11 @@ impl Session {
             Sealing::Shared => Seals::Shared(Replies::new(alloc)?),
         };
         let talk = Talk {
-            sessions: Sessions::new(alloc),
+            sessions: OpenCursors::new(alloc),
             store,
             waiting,
         };
-        Ok(Session {
+        Ok(InputRun {
             talk,
             reader: StepReader::new(form),
         })
@@ -89,7 +89,7 @@ impl Session {
     pub fn finish<D: Disk, K: Sink>(&mut self, disk: &mut D, sink: &mut K) -> Status
         requires { IsOpen (D.seen disk.old) self.old.store }
         ensures ends { Step (disk_verdict result) (D.seen disk.old) (D.seen disk.new)
-            (EndsSession self.old (K.held sink.old) (K.held sink.new) result) }
+            (EndsInputRun self.old (K.held sink.old) (K.held sink.new) result) }
         ensures status { (result ≡ Status.Done) ⊎ IsStop (D.seen disk.old).tells result }
         ensures counted { Counted (sink_verdict result) (K.faults sink.old) (K.faults sink.new) }
     {

@@ -12,7 +12,7 @@ use Rattle.ss_sessions.specs.Opened.{OpensCursor, refuses_cursor_held}
 use Rattle.ss_sessions.specs.declared.error.CursorRefusal.TheVariants.{Unknown, Busy}
 use Rattle.ss_sessions.proofs.CursorLemmas.{cursor_of-with_cursor, err-alike, exactly-refused, exactly-unrefused, is_some-cursor_of, opened-alike, refused-busy}
 use Rattle.ss_sessions.proofs.CursorLemmas.{refused-unknown, refuses_cursor-held, unrefused}
-use Rattle.ss_sessions.proofs.sessions.Sessions.open.Goals as goal
+use Rattle.ss_sessions.proofs.open_cursors.OpenCursors.open.Goals as goal
 
 pub returns-in_default-clause-opens : goal.returns-in_default-clause-opens
 unfolding refuses_cursor_held

@@ -1,7 +1,7 @@
 use Rattle.std.proofs.Common.{◌∙◌, ap₂, ap}
 use Rattle.std.specs.Prelude.{ℤ}
 use Rattle.ss_query.proofs.NearSums.{held-three, three}
-use Rattle.ss_query.proofs.outcomes.sums_seen.Goals as goal
+use Rattle.ss_query.proofs.answering.sums_seen.Goals as goal
 
 pub returns : goal.returns
 returns c =

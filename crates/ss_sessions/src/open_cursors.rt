@@ -12,12 +12,12 @@ use std::marker::Model;
 /// The cursors of eight sessions. A cursor gives the windows of a stream as they were when it was opened, oldest first and each
 /// once, whatever is appended, merged or dropped meanwhile. It is seen as the rows that each session's cursor has left.
 #[derive(Drop)]
-pub struct Sessions {
+pub struct OpenCursors {
     alloc: Global,
     cursors: [Option<Cursor>; 8],
 }
 
-impl Model for Sessions {
+impl Model for OpenCursors {
     ghost use Rattle.std.specs.Prelude.{◌≡◌, length};
     ghost use Rattle.ss_sessions.specs.Cursors.{Cursors};
     ghost use Rattle.ss_base.specs.declared.limits.TheConstants.{MOST_SESSIONS};
@@ -29,7 +29,7 @@ impl Model for Sessions {
     ghost invariant = { λ s. length s.cursors ≡ MOST_SESSIONS };
 }
 
-impl Sessions {
+impl OpenCursors {
     ghost use Rattle.std.specs.Prelude.{◌≡◌, ◌<◌, ◌↔◌, false, length, drop, is_some, slice_get, option_map, Some, None, IsSome, IfOk, IfSome, OnErr, Err};
     ghost use Rattle.std.specs.List.{Contains};
     ghost use Rattle.ss_outside.specs.Disk.{OfContent};
@@ -44,11 +44,11 @@ impl Sessions {
     ghost use Rattle.ss_parts.specs.Held.{window_slots_of};
     ghost use Rattle.ss_sessions.specs.declared.error.CursorRefusal.{CursorRefusal};
 
-    /// Sessions of which none has a cursor. It takes no memory.
-    pub fn new(alloc: Global) -> Sessions
+    /// None, of no session. It takes no memory.
+    pub fn new(alloc: Global) -> OpenCursors
         ensures { result ≡ no_cursors }
     {
-        Sessions {
+        OpenCursors {
             alloc,
             cursors: [None, None, None, None, None, None, None, None],
         }
