@@ -23,6 +23,9 @@ mod step_reader;
 mod taking;
 mod talk;
 
+pub use answer::{Question, ask, show};
+pub use refuse::refuse;
 pub use running::{LONGEST_INPUT, run};
 pub use sending::send;
+pub use staging::stage;
 pub use status::{Status, complaint, exit_code};
