@@ -43,25 +43,25 @@ fn moved(count: isize, buffer: &[u8]) -> io::Result<usize>
 
 // A call of an open file that answers 0 or -1.
 #[derive(Clone, Copy)]
-enum Call {
+enum Request {
     Lock(i32),
     SyncData,
     SyncAll,
 }
 
-fn call_once(descriptor: i32, call: Call) -> i32 {
-    match call {
-        Call::Lock(how) => libc::flock(descriptor, how),
-        Call::SyncData => libc::fdatasync(descriptor),
-        Call::SyncAll => libc::fsync(descriptor),
+fn call_once(descriptor: i32, request: Request) -> i32 {
+    match request {
+        Request::Lock(how) => libc::flock(descriptor, how),
+        Request::SyncData => libc::fdatasync(descriptor),
+        Request::SyncAll => libc::fsync(descriptor),
     }
 }
 
 // Makes a call, and makes it again where a signal came in between.
-fn call(descriptor: i32, call: Call) -> io::Result<()> {
+fn call(descriptor: i32, request: Request) -> io::Result<()> {
     let mut interrupts = 0u64;
     while interrupts < u64::MAX {
-        if call_once(descriptor, call) >= 0 {
+        if call_once(descriptor, request) >= 0 {
             return Ok(());
         }
         let error = last_error();
@@ -185,7 +185,7 @@ impl System for Descriptors {
             Lock::Exclusive => libc::LOCK_EX,
             Lock::Shared => libc::LOCK_SH,
         };
-        call(self.opened()?, Call::Lock(how | libc::LOCK_NB))
+        call(self.opened()?, Request::Lock(how | libc::LOCK_NB))
     }
 
     fn kind(&mut self) -> io::Result<Kind> {
@@ -210,11 +210,11 @@ impl System for Descriptors {
     }
 
     fn sync_data(&mut self) -> io::Result<()> {
-        call(self.opened()?, Call::SyncData)
+        call(self.opened()?, Request::SyncData)
     }
 
     fn sync_all(&mut self) -> io::Result<()> {
-        call(self.opened()?, Call::SyncAll)
+        call(self.opened()?, Request::SyncAll)
     }
 
     fn open_folder(&mut self, path: &str) -> io::Result<()> {
@@ -224,7 +224,7 @@ impl System for Descriptors {
 
     fn sync_folder(&mut self) -> io::Result<()> {
         match self.folder.take() {
-            Some(folder) => call(folder.as_raw_fd(), Call::SyncAll),
+            Some(folder) => call(folder.as_raw_fd(), Request::SyncAll),
             None => Err(io::Error::from(ErrorKind::Other)),
         }
     }

@@ -5,7 +5,7 @@ ghost use Rattle.ss_connection.specs.Holds.{IsUsable};
 
 use crate::answer::{Why, ack_of, in_time, name_of, newest_of, outcome_of};
 use crate::fill::fill;
-use ss_catalog::{Event, Kind, Params, Query};
+use ss_catalog::{Event, Kind, Name, Params, Query};
 use ss_command::{Command, LINE_END, LONGEST_LINE, parse};
 use ss_connection::Connection;
 use ss_model::{Ack, Newest, Outcome};
@@ -25,6 +25,14 @@ pub struct Held<D: Disk> {
     // How many bytes of what was said last were handed out, where it was a line that said it.
     shown: Option<usize>,
     ghost usable: { IsUsable (D.seen disk) connection },
+}
+
+/// What was taken of values: how many of the first ones, how the stream stands after the last of these, and why the next one wasn't taken.
+#[derive(Clone, Copy)]
+pub struct Many {
+    pub taken: usize,
+    pub last: Option<Ack>,
+    pub refused: Option<Why>,
 }
 
 // Whether a line, with or without its line end, is an event.
@@ -98,6 +106,12 @@ impl<D: Disk> Held<D> {
         }
     }
 
+    fn stage(&mut self, event: &Event) -> Result<Ack, Why>
+        requires { IsInTime event.now }
+    {
+        ack_of(self.connection.stage(event, &mut self.disk))
+    }
+
     // Does an event, or stages it in a batch.
     fn take(&mut self, event: &Event) -> Result<Ack, Why>
         requires { IsInTime event.now }
@@ -106,11 +120,10 @@ impl<D: Disk> Held<D> {
         if self.only_looks {
             return Err(Why::ReadOnly);
         }
-        ack_of(if self.is_batch {
-            self.connection.stage(event, &mut self.disk)
-        } else {
-            self.connection.apply(event, &mut self.disk)
-        })
+        if self.is_batch {
+            return self.stage(event);
+        }
+        ack_of(self.connection.apply(event, &mut self.disk))
     }
 
     /// Makes a stream.
@@ -124,6 +137,58 @@ impl<D: Disk> Held<D> {
         let name = name_of(name)?;
         let t = in_time(time)?;
         self.take(&Event::Value { name, t, v: value })
+    }
+
+    // Stages values, each at its time, until one is refused.
+    fn stage_many(&mut self, name: Name, times: &[u64], values: &[i64]) -> Many {
+        let mut taken = 0;
+        let mut last = None;
+        while taken < times.len() && taken < values.len() {
+            let staged = match in_time(times[taken]) {
+                Ok(t) => self.stage(&Event::Value {
+                    name,
+                    t,
+                    v: values[taken],
+                }),
+                Err(why) => Err(why),
+            };
+            match staged {
+                Ok(ack) => last = Some(ack),
+                Err(why) => return Many {
+                    taken,
+                    last,
+                    refused: Some(why),
+                },
+            }
+            taken += 1;
+        }
+        Many {
+            taken,
+            last,
+            refused: None,
+        }
+    }
+
+    /// Takes values, each at its time, until one is refused. Those that were taken come to the disk together, but in a batch.
+    pub fn append_many(
+        &mut self,
+        name: &[u8],
+        times: &[u64],
+        values: &[i64],
+    ) -> Result<Many, Why> {
+        let name = name_of(name)?;
+        self.shown = None;
+        if self.only_looks {
+            return Err(Why::ReadOnly);
+        }
+        let many = self.stage_many(name, times, values);
+        if let Some(Why::Stopped(status)) = many.refused {
+            return Err(Why::Stopped(status));
+        }
+        if !self.is_batch {
+            self.seal()?;
+        }
+        Ok(many)
     }
 
     /// Brings what waits to the disk.

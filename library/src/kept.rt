@@ -1,118 +1,33 @@
 // What stands behind a handle.
+ghost use Rattle.std.specs.Prelude.{◌≤◌, length, IfOk};
+
 use crate::answer::Why;
 use crate::descriptors::Descriptors;
 use crate::fill::fill;
 use crate::held::Held;
-use crate::message::{message, opening_message};
-use ss_connection::Connection;
-use ss_file::{Demand, FileDisk, Missing, Trouble, meet};
-use ss_program::Status;
-use ss_store::OpenError;
+use crate::message::message;
+use crate::shapes::{
+    CAck, CInterval, CNewest, CTarget, ack, guess_kind, interval, kind, newest, params, presence,
+};
+use ss_catalog::Kind;
+use ss_file::FileDisk;
 use std::alloc::Global;
-
-/// How a store is opened.
-#[derive(Clone, Copy, Debug)]
-pub struct Flags {
-    pub has_to_exist: bool,
-    pub has_to_be_checked: bool,
-    pub is_batch: bool,
-    pub only_looks: bool,
-}
-
-impl Flags {
-    /// The flags that these bits stand for.
-    pub fn of(bits: u32) -> Option<Flags> {
-        if bits >= 16 {
-            return None;
-        }
-        Some(Flags {
-            has_to_exist: bits & 1 != 0,
-            has_to_be_checked: bits & 2 != 0,
-            is_batch: bits & 4 != 0,
-            only_looks: bits & 8 != 0,
-        })
-    }
-
-    fn missing(self) -> Missing {
-        if self.only_looks {
-            Missing::ReadFail
-        } else if self.has_to_exist {
-            Missing::Fail
-        } else {
-            Missing::Make
-        }
-    }
-
-    fn demand(self) -> Demand {
-        if !self.has_to_be_checked {
-            Demand::Nothing
-        } else if self.only_looks {
-            Demand::Look
-        } else {
-            Demand::Make
-        }
-    }
-}
 
 /// Why a store wasn't opened, and what there is to say of it.
 #[derive(Drop)]
 pub struct Shut {
-    why: Why,
-    message: String,
+    pub why: Why,
+    pub message: String,
 }
 
-/// A connection, or why there is none.
+/// A connection to a store, or why it wasn't opened.
 #[derive(Drop)]
 pub enum Kept {
     Open(Held<FileDisk<Descriptors>>),
     Shut(Shut),
 }
 
-// The status of a store that wasn't opened.
-fn status_of(error: OpenError) -> Status {
-    match error {
-        OpenError::Disk => Status::DiskFault,
-        OpenError::OutOfMemory => Status::OutOfMemory,
-        OpenError::Changed { .. } => Status::RecordChanged,
-        _ => Status::RefusedStore,
-    }
-}
-
-// Why a store wasn't opened.
-fn shut(alloc: Global, error: OpenError, disk: &FileDisk<Descriptors>) -> Shut {
-    let status = status_of(error);
-    let is_busy = match disk.why() {
-        Some(reason) => matches!(reason.trouble, Trouble::InUse),
-        None => false,
-    };
-    let message = match opening_message(alloc, error, status.number(), disk) {
-        Ok(message) => message,
-        Err(_) => String::new(alloc),
-    };
-    let why = if is_busy {
-        Why::Busy
-    } else {
-        Why::Stopped(status)
-    };
-    Shut { why, message }
-}
-
 impl Kept {
-    /// Opens the store at a path.
-    pub fn open(alloc: Global, path: String, flags: Flags) -> Kept {
-        let mut disk = FileDisk::new(Descriptors::new(), path, flags.missing());
-        meet(&mut disk, flags.demand());
-        match Connection::open(alloc, &mut disk) {
-            Ok(connection) => Kept::Open(Held::new(
-                disk,
-                connection,
-                flags.is_batch,
-                flags.only_looks,
-            )),
-            Err(error) => Kept::Shut(shut(alloc, error, &disk)),
-        }
-    }
-
     /// Why the connection has stopped, or 0 where it goes on.
     pub fn status(&self) -> i32 {
         match self {
@@ -125,7 +40,9 @@ impl Kept {
     }
 
     /// Puts what there is to say of it into the room, and answers how many bytes these are.
-    pub fn tell(&self, alloc: Global, room: &mut [u8]) -> usize {
+    pub fn tell(&self, alloc: Global, room: &mut [u8]) -> usize
+        ensures { result ≤ length room.new }
+    {
         match self {
             Kept::Shut(shut) => fill(shut.message.as_bytes(), room),
             Kept::Open(held) => match held.ended() {
@@ -138,11 +55,112 @@ impl Kept {
         }
     }
 
-    /// The connection, unless there is none.
-    pub fn held(&mut self) -> Result<&mut Held<FileDisk<Descriptors>>, Why> {
+    // The connection, unless the store wasn't opened.
+    fn held(&mut self) -> Result<&mut Held<FileDisk<Descriptors>>, Why> {
         match self {
             Kept::Open(held) => Ok(held),
             Kept::Shut(shut) => Err(shut.why),
         }
+    }
+
+    /// Does a line of the grammar, and puts the front of its reply into the room.
+    pub fn call(&mut self, line: &[u8], room: &mut [u8]) -> Result<usize, Why>
+        ensures { IfOk result (λ count. count ≤ length room.new) }
+    {
+        self.held()?.call(line, room)
+    }
+
+    /// Puts what follows of the reply to the last line into the room.
+    pub fn next(&mut self, room: &mut [u8]) -> Result<usize, Why>
+        ensures { IfOk result (λ count. count ≤ length room.new) }
+    {
+        self.held()?.next(room)
+    }
+
+    /// Makes a stream.
+    pub fn create(&mut self, name: &[u8], target: &CTarget) -> Result<CAck, Why> {
+        let held = self.held()?;
+        match params(target) {
+            Some(params) => Ok(ack(held.create(name, params)?)),
+            None => Err(Why::Misuse),
+        }
+    }
+
+    /// Takes a value.
+    pub fn append(&mut self, name: &[u8], time: u64, value: i64) -> Result<CAck, Why> {
+        Ok(ack(self.held()?.append(name, time, value)?))
+    }
+
+    /// Takes values, each at its time, until one is refused, and says how many were taken.
+    pub fn append_many(
+        &mut self,
+        name: &[u8],
+        times: &[u64],
+        values: &[i64],
+        taken: &mut usize,
+        acked: &mut CAck,
+    ) -> Result<(), Why> {
+        let many = self.held()?.append_many(name, times, values)?;
+        *taken = many.taken;
+        if let Some(last) = many.last {
+            *acked = ack(last);
+        }
+        match many.refused {
+            Some(why) => Err(why),
+            None => Ok(()),
+        }
+    }
+
+    /// Brings what waits to the disk.
+    pub fn seal(&mut self) -> Result<(), Why> {
+        self.held()?.seal()
+    }
+
+    // Asks a query of a kind, where there is such a kind.
+    fn ask(
+        &mut self,
+        name: &[u8],
+        kind: Option<Kind>,
+        from: u64,
+        to: u64,
+    ) -> Result<CInterval, Why> {
+        let held = self.held()?;
+        match kind {
+            Some(kind) => Ok(interval(held.query(name, kind, from, to)?)),
+            None => Err(Why::Misuse),
+        }
+    }
+
+    /// What is known of the values with times from `from` to `to`.
+    pub fn query(
+        &mut self,
+        name: &[u8],
+        number: u32,
+        from: u64,
+        to: u64,
+    ) -> Result<CInterval, Why> {
+        self.ask(name, kind(number), from, to)
+    }
+
+    /// The same, with the likeliest number.
+    pub fn estimate(
+        &mut self,
+        name: &[u8],
+        number: u32,
+        from: u64,
+        to: u64,
+    ) -> Result<CInterval, Why> {
+        self.ask(name, guess_kind(number), from, to)
+    }
+
+    /// Whether one of these values is `value`.
+    pub fn has(&mut self, name: &[u8], value: i64, from: u64, to: u64) -> Result<u32, Why> {
+        let held = self.held()?;
+        Ok(presence(held.query(name, Kind::Has { value }, from, to)?))
+    }
+
+    /// How far a stream has come, and what is known of its newest value.
+    pub fn last(&mut self, name: &[u8]) -> Result<CNewest, Why> {
+        Ok(newest(self.held()?.last(name)?))
     }
 }

@@ -4,8 +4,12 @@
 mod answer;
 mod descriptors;
 mod exports;
+mod fill;
 mod handle;
 mod held;
+mod kept;
 mod look;
 mod loose;
 mod message;
+mod opening;
+mod shapes;
