@@ -80,15 +80,6 @@ brings-certified history query end w none is =
     ap (λ r. unless_refused r (only_replies (certified (evidence_in (state history) query end)))) none ∙ ap (λ o. only_replies (certified o)) is
 
 module _ (speaker : Option ℕ) where
-  -- so it brings a reply
-  head-some : (head : Reply) (rows : List Reply) → 0 < length (flat_map (said_line speaker) (head ∷ rows))
+  -- a reply with rows behind it isn't empty
+  pub head-some : (head : Reply) (rows : List Reply) → 0 < length (flat_map (said_line speaker) (head ∷ rows))
   head-some head rows = omega (arith, said_line-some speaker head, length-append (said_line speaker head) (flat_map (said_line speaker) rows))
-
-  pub certified-some : (history : History) (query : Query) (end : End) → refuses_query (state history) query ≡ None →
-      0 < length (text_said speaker (command_brings history (Certify query end)))
-  certified-some history query end none =
-      let known = evidence-known (state history) query end none in
-      rw (brings-certified history query end known.0 none known.1)
-      (head-some (head_of known.0) (flat_map (λ c. side_of c true ∷ side_of c false ∷ []) known.0.certs.items))
-
--- ---- its lines

@@ -11,6 +11,9 @@ pub mod AnswerLemmas
 pub mod MeantLemmas
 pub mod TakesLemmas
 pub mod RowLemmas
+pub mod LeftRowLemmas
+pub mod RowsLemmas
+pub mod ShowLemmas
 pub mod NewestLemmas
 pub mod ValuesLemmas
 pub mod SeriesLemmas
@@ -23,7 +26,7 @@ pub mod RunLemmas
 pub mod OpeningLemmas
 pub mod EndLemmas
 pub mod GenerateLemmas
-pub mod Rows
+pub mod BroughtRows
 pub mod SaidRows
 pub mod NewestRows
 pub mod FieldRows

@@ -7,6 +7,7 @@ pub mod Devices
 pub mod Progress
 pub mod Answer
 pub mod Series
+pub mod Rows
 pub mod Certifying
 pub mod Amid
 pub mod Opened

@@ -46,7 +46,7 @@ ghost use Rattle.ss_program.specs.Status.{EndsAs, EndsServing, disk_verdict, end
 use crate::buffer::buffer_for;
 use crate::check::check;
 use crate::generate::generate;
-use crate::refuse::{refuse, say_usage};
+use crate::refusing::{refuse, say_usage};
 use crate::session::Session;
 use crate::status::Status;
 use ss_arguments::{Form, Mode, Sealing, mode_of};
