@@ -1,6 +1,6 @@
 /* What the system knows of a file. The proved library can't lay out the C library's struct by itself. */
+#define _POSIX_C_SOURCE 200809L
 #include <errno.h>
-#include <fcntl.h>
 #include <limits.h>
 #include <stdint.h>
 #include <string.h>

@@ -59,8 +59,7 @@ fn call_once(descriptor: i32, request: Request) -> i32 {
 
 // Makes a call, and makes it again where a signal came in between.
 fn call(descriptor: i32, request: Request) -> io::Result<()> {
-    let mut interrupts = 0u64;
-    while interrupts < u64::MAX {
+    for _ in 0..u64::MAX {
         if call_once(descriptor, request) >= 0 {
             return Ok(());
         }
@@ -68,7 +67,6 @@ fn call(descriptor: i32, request: Request) -> io::Result<()> {
         if error.kind() != ErrorKind::Interrupted {
             return Err(error);
         }
-        interrupts += 1;
     }
     Err(io::Error::from(ErrorKind::Interrupted))
 }
@@ -83,10 +81,9 @@ fn flags_for(access: Access) -> i32 {
 
 // Opens a file.
 fn open(path: &str, access: Access) -> io::Result<OwnedFd> {
-    let mut interrupts = 0u64;
-    while interrupts < u64::MAX {
+    for _ in 0..u64::MAX {
         match owned(os::open_with(path.as_bytes(), flags_for(access), 0o666)) {
-            Err(error) if error.kind() == ErrorKind::Interrupted => interrupts += 1,
+            Err(error) if error.kind() == ErrorKind::Interrupted => {}
             answer => return answer,
         }
     }
@@ -97,14 +94,10 @@ fn open(path: &str, access: Access) -> io::Result<OwnedFd> {
 fn folder_length(path: &[u8]) -> usize
     ensures { result ≤ length path.now }
 {
-    let mut length = path.len();
-    while length > 0 {
-        if path[length - 1] == b'/' {
-            break;
-        }
-        length -= 1;
+    match path.iter().rposition(|byte| *byte == b'/') {
+        Some(place) => place + 1,
+        None => 0,
     }
-    length
 }
 
 // Opens the folder where the file really lies.
@@ -114,8 +107,8 @@ fn open_folder(path: &str) -> io::Result<OwnedFd> {
         return Err(last_error());
     }
     let length = os::name_length(&resolved);
-    let folder = folder_length(&resolved[..length]);
-    owned(os::open_read(&resolved[..folder]))
+    let path = &resolved[..length];
+    owned(os::open_read(&path[..folder_length(path)]))
 }
 
 /// The system of the process that the library lies in, with at most one file open.
