@@ -1,0 +1,4 @@
+mod CallLemmas
+mod HoldsLemmas
+mod LawLemmas
+mod SaysLemmas

@@ -1,4 +1,7 @@
 pub mod Calls
 pub mod Holds
+pub mod InTurn
+pub mod Many
 pub mod Opens
-pub mod Text
+pub mod Showing
+pub mod Typed

@@ -1,10 +1,17 @@
 // A connection to a store.
+mod events;
 mod lines;
-mod typed;
+mod many;
+mod questions;
+mod showing;
+
+ghost use Rattle.std.specs.Prelude.{◌≡◌};
+ghost use Rattle.ss_connection.specs.Calls.{stop_of};
 
 use crate::text::Text;
+pub use many::Taken;
 use ss_outside::Disk;
-use ss_program::Status;
+use ss_program::{Rows, Status};
 use ss_store::{OpenError, Store};
 use std::alloc::Global;
 use std::marker::Model;
@@ -17,6 +24,8 @@ use std::marker::Model;
 pub struct Connection {
     store: Store,
     text: Text,
+    // The rows of the last line that are still to be said.
+    rows: Option<Rows>,
     ended: Option<Status>,
 }
 
@@ -25,13 +34,22 @@ impl Model for Connection {
 
     ghost Value = { ConnectionState };
 
-    ghost view = { λ s. record { store = s.store; said = s.text.bytes; ended = s.ended } };
+    ghost view = { λ s. record { store = s.store; said = s.text; rows = s.rows; ended = s.ended } };
+}
+
+// Why a call ends the connection, where it does.
+fn stop_of<T>(answered: &Result<T, Status>) -> Option<Status>
+    ensures { result ≡ stop_of answered.now }
+{
+    match answered {
+        Ok(_) => None,
+        Err(status) => Some(*status),
+    }
 }
 
 impl Connection {
-    ghost use Rattle.std.specs.Prelude.{◌≡◌, [], None, IfOk};
+    ghost use Rattle.std.specs.Prelude.{[], None, IfOk};
     ghost use Rattle.ss_outside.specs.Step.{Step};
-    ghost use Rattle.ss_connection.specs.Calls.{stop_of};
     ghost use Rattle.ss_connection.specs.Holds.{IsUsable};
     ghost use Rattle.ss_connection.specs.Opens.{OpensHeld};
     ghost use Rattle.ss_store.specs.Errors.{verdict_of_opening};
@@ -40,13 +58,14 @@ impl Connection {
     pub fn open<D: Disk>(alloc: Global, disk: &mut D) -> Result<Connection, OpenError>
         ensures opens { Step (verdict_of_opening result) (D.seen disk.old) (D.seen disk.new) (OpensHeld result) }
         ensures usable { IfOk result (λ connection. IsUsable (D.seen disk.new) connection) }
-        ensures begins { IfOk result (λ connection. (connection.said ≡ []) × (connection.ended ≡ None)) }
+        ensures begins { IfOk result (λ connection. (connection.said ≡ []) × (connection.rows ≡ None) × (connection.ended ≡ None)) }
     {
         match Text::new(alloc) {
             Ok(text) => match Store::open(alloc, disk) {
                 Ok(store) => Ok(Connection {
                     store,
                     text,
+                    rows: None,
                     ended: None,
                 }),
                 Err(error) => Err(error),
@@ -55,7 +74,7 @@ impl Connection {
         }
     }
 
-    /// The text of what the last line said, or of the last rows.
+    /// The text of what was said last: by a line, or of further rows.
     pub fn said(&self) -> &[u8]
         ensures { result.now ≡ self.now.said }
     {

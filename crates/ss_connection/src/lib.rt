@@ -3,7 +3,8 @@
 
 mod bare;
 mod connection;
+mod laws;
 mod text;
 
-pub use connection::Connection;
-pub use text::Text;
+pub use connection::{Connection, Taken};
+pub use laws::{calls_say_what_a_run_says, typed_calls_do_what_lines_say};
