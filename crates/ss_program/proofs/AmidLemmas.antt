@@ -1,7 +1,7 @@
 -- Between two lines of a session: how it begins, how it goes on, and where a run stops.
 use Rattle.ss_program.proofs.Common.{◌≡◌, ℕ, ◌≤◌, ◌++◌, List, [], ◌∷◌, length, Option, Some, None, Result, Ok, Err, OnOk, refl, sym, ap, ◌∙◌, common_steps}
 use Rattle.ss_program.proofs.Common.{append_assoc, arith, append-nil, length-append, at_start, joined, of_content, weaker, KnowsNow, LeavesOnly, DiskView}
-use Rattle.ss_program.proofs.Common.{NothingPending, Told, shown_by, Cursors, Amid, AreOwed, GoesAmid, IsAmid, IsAtRest, TakesFurther, TakesNone, one_line_more}
+use Rattle.ss_program.proofs.Common.{NothingPending, Told, shown_by, Amid, AreOwed, GoesAmid, IsAmid, IsAtRest, TakesFurther, TakesNone, one_line_more}
 use Rattle.ss_program.proofs.Common.{owed_by, IsOpen, NoneWait, SessionState, StandsBeyond, StandsWithin, StopsIn, sealing_by, HoldsTalk, appended, after_lines}
 use Rattle.ss_program.proofs.Common.{text_of, Talk, Sealing, Each, Shared, Seals, Status}
 use Rattle.ss_program.proofs.SessionLemmas.{after_lines-append, moments-more, text_of-append}

@@ -1,5 +1,5 @@
 -- What each field says of where a run stopped and of what is owed, and bounds that are false just past them.
-use Rattle.ss_program.proofs.Common.{◌≡◌, ℕ, ◌+◌, ◌<◌, ◌≤◌, ◌++◌, List, [], ◌∷◌, length, take, Option, Some, None, refl, arith, IsTrue, false, IsSealed}
+use Rattle.ss_program.proofs.Common.{◌≡◌, ℕ, ◌+◌, ◌<◌, ◌≤◌, ◌++◌, List, [], ◌∷◌, length, take, Option, Some, refl, arith, IsTrue, false, IsSealed}
 use Rattle.ss_program.proofs.Common.{DiskView, OfContent, Told, StoreIsKept, StoreState, AreOwed, IsReadyToServe, owed_by, with_text, IsOpen, IsServing}
 use Rattle.ss_program.proofs.Common.{HoldsAcked}
 use Rattle.ss_program.proofs.Common.{HoldsBy, steps_within, HoldsTalk, BeginsWithWant, HasTaken, NoneWait, SessionState, StandsBeyond, StopsAmong, sealing_by}

@@ -1,5 +1,5 @@
 -- A line of a session, by what it brings.
-use Rattle.ss_program.proofs.Common.{◌⊎◌, ◌≡◌, ℕ, ◌<◌, ◌++◌, List, [], ◌∷◌, length, Option, Some, None, Result, Ok, Err, refl, sym, ap, ◌∙◌, arith, append-nil}
+use Rattle.ss_program.proofs.Common.{◌⊎◌, ◌≡◌, ℕ, ◌<◌, ◌++◌, List, [], ◌∷◌, length, Option, None, Result, Ok, Err, refl, sym, ap, ◌∙◌, arith, append-nil}
 use Rattle.ss_program.proofs.Common.{flat_map, IsTrue, OnOk, of_content, reads-none, KnowsNow, LeavesOnly, shown-sealed, DiskView, Told, RecordsState, shown_by}
 use Rattle.ss_program.proofs.Common.{said_line, Reply, TurnsHistory, StoreState, Stands, Amid, GoesAmid, IsAmid, Owed, StagesBrought, TakesNone}
 use Rattle.ss_program.proofs.Common.{TakesTurn, amid, owed_by, with_text, IsOpen, Brought, History, history_after, nothing, text_said, IsAlone, HoldsTalk}

@@ -105,7 +105,7 @@ pub use Rattle.ss_program.specs.Amid.{owed_by, with_text, Owed}
 pub use Rattle.ss_program.specs.Amid.{StagesBrought, TakesTurn, amid, between, owing, session_state, OfAmid, TakesBytes, TakesLast, StagesFramed}
 pub use Rattle.ss_program.specs.Amid.{TakesStarved, staged_replies}
 pub use Rattle.ss_program.specs.Answer.{IsOpen, IsServing, at_sink, SendsRows, IsOneReply, ReadsAnswer, Shows}
-pub use Rattle.ss_program.specs.Answer.{IsTextBrought, IsRowsText, HasRows, question_command}
+pub use Rattle.ss_program.specs.Answer.{IsTextBrought, HasRows, question_command}
 pub use Rattle.ss_program.specs.Certifying.{HasEvidence, IsSharp}
 pub use Rattle.ss_program.specs.Checked.{ChecksStore, survey_line, Checks}
 pub use Rattle.ss_program.specs.Cursor.{order_in, Ordered, close_brings, closes_cursor, leaves_cursors, next_brings, open_brings, opens_cursor, placed_rows}
@@ -127,7 +127,7 @@ pub use Rattle.ss_program.specs.Progress.{StopsAmong, StandsAround, IsAlone, End
 pub use Rattle.ss_program.specs.Reading.{StepState, TellsStep, most_read, step_under_way}
 pub use Rattle.ss_program.specs.Refused.{AsRefused, refusal_line, status_of_open, SaysRefusal, RefusesStore}
 pub use Rattle.ss_program.specs.Sent.{appended, AppendsLess, Sends, SaysLine, AppendsFront, StopsSaying, Puts}
-pub use Rattle.ss_program.specs.Series.{IsAnswerIn, IsSeriesText}
+pub use Rattle.ss_program.specs.Series.{IsAnswerIn}
 pub use Rattle.ss_program.specs.Session.{plain_after, text_of, after_lines, after_line, accepted, report, report_so_far, replies, NoneCreates}
 pub use Rattle.ss_program.specs.Status.{IsApplyStop, IsDiskStop, IsShowStop, IsStop, EndsAs, EndsServing, disk_verdict, exit_number, sink_verdict}
 pub use Rattle.ss_program.specs.Status.{source_verdict, ended, Continues}

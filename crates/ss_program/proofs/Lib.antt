@@ -12,6 +12,7 @@ pub mod MeantLemmas
 pub mod TakesLemmas
 pub mod RowLemmas
 pub mod LeftRowLemmas
+pub mod LeftRows
 pub mod RowsLemmas
 pub mod ShowLemmas
 pub mod NewestLemmas

@@ -134,7 +134,11 @@ pub fn begin_certificate<D: Disk>(
 }
 
 /// Takes the next of the lines that are made already.
-pub fn next_line(lines: &ArrayVec<Reply, MOST_LINES>, next: &mut usize, store: &Store) -> Option<Reply>
+pub fn next_line(
+    lines: &ArrayVec<Reply, MOST_LINES>,
+    next: &mut usize,
+    store: &Store,
+) -> Option<Reply>
     ensures { TakesHeld store.now (Rows.Lines lines.now next.old) (Rows.Lines lines.now next.new) result }
 {
     let lines = lines.as_slice();

@@ -18,7 +18,7 @@ returns-then-next-rows-clause-takes g c =
     step-none disk _ (λ told. record {
       row = λ history stands.
           let none = series-ended (state history) series (unrefused c.args.store.now disk series c.requires.open c.requires.stands.taken told history stands)
-              c.args.next.now (omega (arith, c.rows.ensures)) in
+          c.args.next.now (omega (arith, c.rows.ensures)) in
           (none, none);
       reads = reads-none disk.told;
     })
