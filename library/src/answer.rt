@@ -1,9 +1,10 @@
 // What a call answers.
 ghost use Rattle.std.specs.Prelude.{◌≤◌, IfOk};
-ghost use Rattle.ss_base.specs.declared.TheConstants.{LAST_TIME};
+ghost use Rattle.ss_base.specs.declared.limits.TheConstants.{LAST_TIME};
 
 use ss_base::LAST_TIME;
 use ss_catalog::{Name, Refusal};
+use ss_connection::Taken;
 use ss_model::{Ack, Newest, Outcome};
 use ss_program::Status;
 use ss_report::Reply;
@@ -92,6 +93,14 @@ pub fn ack_of(reply: Result<Reply, Status>) -> Result<Ack, Why> {
     match reply {
         Ok(Reply::Done(ack)) => Ok(ack),
         Ok(reply) => Err(other(reply)),
+        Err(status) => Err(Why::Stopped(status)),
+    }
+}
+
+/// What was taken of values. A time that is none is a number that is none.
+pub fn taken_of(taken: Result<Taken, Status>) -> Result<Taken, Why> {
+    match taken {
+        Ok(taken) => Ok(taken),
         Err(status) => Err(Why::Stopped(status)),
     }
 }

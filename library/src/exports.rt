@@ -3,9 +3,8 @@ use crate::answer::Why;
 use crate::handle::Handle;
 use crate::kept::Kept;
 use crate::opening::open;
-use crate::shapes::{
-    CAck, CInterval, CNewest, CTarget, ack, guess_kind, interval, kind, newest, params, presence,
-};
+use crate::shapes::{CAck, CInterval, CNewest, CTarget, ack};
+use ss_connection::Taken;
 use std::alloc::Global;
 
 // A call is done.
@@ -27,6 +26,18 @@ fn hand_out<T: Copy>(found: Result<T, Why>, place: &mut T) -> i32 {
             DONE
         }
         Err(why) => why.number(),
+    }
+}
+
+// How many values were taken, what the stream has then, and why the next one wasn't.
+fn hand_out_taken(found: Taken, taken: &mut usize, acked: &mut CAck) -> i32 {
+    *taken = found.count;
+    if let Some(last) = found.last {
+        *acked = ack(last);
+    }
+    match found.refusal {
+        Some(refusal) => Why::Refused(refusal).number(),
+        None => DONE,
     }
 }
 
@@ -165,9 +176,12 @@ pub extern "C" fn summarystore_held_append_many(
     let Some(mut kept) = handle.take(alloc) else {
         return Why::Misuse.number();
     };
-    let appended = kept.append_many(name, times, values, taken, acked);
+    let appended = kept.append_many(name, times, values);
     *handle = Handle::of(kept);
-    answer(appended)
+    match appended {
+        Ok(found) => hand_out_taken(found, taken, acked),
+        Err(why) => why.number(),
+    }
 }
 
 /// Brings what waits to the disk.
@@ -250,6 +264,21 @@ pub extern "C" fn summarystore_held_last(
         return Why::Misuse.number();
     };
     let asked = kept.last(name);
+    *handle = Handle::of(kept);
+    hand_out(asked, found)
+}
+
+/// How many streams stand.
+#[unsafe(no_mangle)]
+pub extern "C" fn summarystore_held_streams(
+    alloc: Global,
+    handle: &mut Handle,
+    found: &mut usize,
+) -> i32 {
+    let Some(kept) = handle.take(alloc) else {
+        return Why::Misuse.number();
+    };
+    let asked = kept.streams();
     *handle = Handle::of(kept);
     hand_out(asked, found)
 }

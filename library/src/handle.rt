@@ -1,6 +1,9 @@
 // What C holds of a connection.
 ghost use Rattle.std.specs.Prelude.{◌≡◌, None, Option, Some};
+ghost use Rattle.libsummarystore.specs.Kept.{IsFit};
 ghost use Rattle.libsummarystore.specs.declared.kept.Kept.{Kept};
+ghost use Rattle.libsummarystore.specs.contracts.kept.Kept.{the_row};
+ghost use Rattle.std.specs.Coded.{coded_option};
 ghost use Rattle.std.specs.Option.{MatchOption};
 
 use crate::kept::Kept;
@@ -15,7 +18,7 @@ use std::ptr::null_mut;
 pub struct Handle {
     at: *mut u8,
     alloc: Global,
-    ghost held: { Option Kept },
+    ghost held: { Option Kept } by { coded_option the_row.coded },
 }
 
 impl Model for Handle {
@@ -36,6 +39,7 @@ impl Handle {
     }
 
     fn of_loose(loose: Loose<Kept, Global>) -> Handle
+        requires { IsFit loose.value }
         ensures { result.held ≡ Some loose.value }
     {
         let Loose { at, alloc } = loose;
@@ -46,7 +50,7 @@ impl Handle {
     }
 
     fn into_loose(self) -> Option<Loose<Kept, Global>>
-        ensures { MatchOption result (self.held ≡ None) (λ loose. self.held ≡ Some loose.value) }
+        ensures { MatchOption result (self.held ≡ None) (λ loose. (self.held ≡ Some loose.value) × IsFit loose.value) }
     {
         let Handle { at, alloc } = self;
         if at.is_null() {
@@ -61,6 +65,7 @@ impl Handle {
 
     /// Holds a box.
     pub fn of(held: Box<Kept>) -> Handle
+        requires { IsFit held.value }
         ensures { result.held ≡ Some held.value }
     {
         Handle::of_loose(Loose::of(held))
@@ -68,7 +73,7 @@ impl Handle {
 
     /// The box, where there is one.
     pub fn into_box(self) -> Option<Box<Kept>>
-        ensures { MatchOption result (self.held ≡ None) (λ held. self.held ≡ Some held.value) }
+        ensures { MatchOption result (self.held ≡ None) (λ held. (self.held ≡ Some held.value) × IsFit held.value) }
     {
         match self.into_loose() {
             None => None,
@@ -78,7 +83,7 @@ impl Handle {
 
     /// Takes the box out, where there is one, and leaves none.
     pub fn take(&mut self, alloc: Global) -> Option<Box<Kept>>
-        ensures taken { MatchOption result (self.old.held ≡ None) (λ held. self.old.held ≡ Some held.value) }
+        ensures taken { MatchOption result (self.old.held ≡ None) (λ held. (self.old.held ≡ Some held.value) × IsFit held.value) }
         ensures left { self.new.held ≡ None }
     {
         mem::replace(self, Handle::none(alloc)).into_box()

@@ -1,5 +1,6 @@
 // What stands behind a handle.
 ghost use Rattle.std.specs.Prelude.{◌≤◌, length, IfOk};
+ghost use Rattle.libsummarystore.specs.Kept.{IsFit};
 
 use crate::answer::Why;
 use crate::descriptors::Descriptors;
@@ -10,7 +11,9 @@ use crate::shapes::{
     CAck, CInterval, CNewest, CTarget, ack, guess_kind, interval, kind, newest, params, presence,
 };
 use ss_catalog::Kind;
+use ss_connection::Taken;
 use ss_file::FileDisk;
+use ss_model::Outcome;
 use std::alloc::Global;
 
 /// Why a store wasn't opened, and what there is to say of it.
@@ -47,7 +50,7 @@ impl Kept {
             Kept::Shut(shut) => fill(shut.message.as_bytes(), room),
             Kept::Open(held) => match held.ended() {
                 None => 0,
-                Some(status) => match message(alloc, status.number(), held.disk()) {
+                Some(status) => match message(alloc, status.number(), &held.disk) {
                     Ok(text) => fill(text.as_bytes(), room),
                     Err(_) => 0,
                 },
@@ -55,65 +58,79 @@ impl Kept {
         }
     }
 
-    // The connection, unless the store wasn't opened.
-    fn held(&mut self) -> Result<&mut Held<FileDisk<Descriptors>>, Why> {
+    /// Does a line of the grammar, and puts the front of its reply into the room.
+    pub fn call(&mut self, line: &[u8], room: &mut [u8]) -> Result<usize, Why>
+        requires { IsFit self.old }
+        ensures fit { IsFit self.new }
+        ensures room { IfOk result (λ count. count ≤ length room.new) }
+    {
         match self {
-            Kept::Open(held) => Ok(held),
+            Kept::Open(held) => held.call(line, room),
             Kept::Shut(shut) => Err(shut.why),
         }
     }
 
-    /// Does a line of the grammar, and puts the front of its reply into the room.
-    pub fn call(&mut self, line: &[u8], room: &mut [u8]) -> Result<usize, Why>
-        ensures { IfOk result (λ count. count ≤ length room.new) }
-    {
-        self.held()?.call(line, room)
-    }
-
     /// Puts what follows of the reply to the last line into the room.
     pub fn next(&mut self, room: &mut [u8]) -> Result<usize, Why>
-        ensures { IfOk result (λ count. count ≤ length room.new) }
+        requires { IsFit self.old }
+        ensures fit { IsFit self.new }
+        ensures room { IfOk result (λ count. count ≤ length room.new) }
     {
-        self.held()?.next(room)
-    }
-
-    /// Makes a stream.
-    pub fn create(&mut self, name: &[u8], target: &CTarget) -> Result<CAck, Why> {
-        let held = self.held()?;
-        match params(target) {
-            Some(params) => Ok(ack(held.create(name, params)?)),
-            None => Err(Why::Misuse),
+        match self {
+            Kept::Open(held) => held.next(room),
+            Kept::Shut(shut) => Err(shut.why),
         }
     }
 
-    /// Takes a value.
-    pub fn append(&mut self, name: &[u8], time: u64, value: i64) -> Result<CAck, Why> {
-        Ok(ack(self.held()?.append(name, time, value)?))
-    }
-
-    /// Takes values, each at its time, until one is refused, and says how many were taken.
-    pub fn append_many(
-        &mut self,
-        name: &[u8],
-        times: &[u64],
-        values: &[i64],
-        taken: &mut usize,
-        acked: &mut CAck,
-    ) -> Result<(), Why> {
-        let many = self.held()?.append_many(name, times, values)?;
-        *taken = many.taken;
-        if let Some(last) = many.last {
-            *acked = ack(last);
-        }
-        match many.refused {
-            Some(why) => Err(why),
-            None => Ok(()),
+    /// Takes values, each at its time, until one is refused.
+    pub fn append_many(&mut self, name: &[u8], times: &[u64], values: &[i64]) -> Result<Taken, Why>
+        requires { IsFit self.old }
+        ensures { IsFit self.new }
+    {
+        match self {
+            Kept::Open(held) => held.append_many(name, times, values),
+            Kept::Shut(shut) => Err(shut.why),
         }
     }
 
     /// Brings what waits to the disk.
-    pub fn seal(&mut self) -> Result<(), Why> {
-        self.held()?.seal()
+    pub fn seal(&mut self) -> Result<(), Why>
+        requires { IsFit self.old }
+        ensures { IsFit self.new }
+    {
+        match self {
+            Kept::Open(held) => held.seal(),
+            Kept::Shut(shut) => Err(shut.why),
+        }
+    }
+
+    /// Makes a stream.
+    pub fn create(&mut self, name: &[u8], target: &CTarget) -> Result<CAck, Why>
+        requires { IsFit self.old }
+        ensures { IsFit self.new }
+    {
+        match (self, params(target)) {
+            (Kept::Shut(shut), _) => Err(shut.why),
+            (_, None) => Err(Why::Misuse),
+            (Kept::Open(held), Some(params)) => match held.create(name, params) {
+                Ok(found) => Ok(ack(found)),
+                Err(why) => Err(why),
+            },
+        }
+    }
+
+    /// Takes a value.
+    pub fn append(&mut self, name: &[u8], time: u64, value: i64) -> Result<CAck, Why>
+        requires { IsFit self.old }
+        ensures { IsFit self.new }
+    {
+        match self {
+            Kept::Shut(shut) => Err(shut.why),
+            Kept::Open(held) => match held.append(name, time, value) {
+                Ok(found) => Ok(ack(found)),
+                Err(why) => Err(why),
+            },
+        }
     }
 
     // Asks a query of a kind, where there is such a kind.
@@ -123,11 +140,14 @@ impl Kept {
         kind: Option<Kind>,
         from: u64,
         to: u64,
-    ) -> Result<CInterval, Why> {
-        let held = self.held()?;
-        match kind {
-            Some(kind) => Ok(interval(held.query(name, kind, from, to)?)),
-            None => Err(Why::Misuse),
+    ) -> Result<Outcome, Why>
+        requires { IsFit self.old }
+        ensures { IsFit self.new }
+    {
+        match (self, kind) {
+            (Kept::Shut(shut), _) => Err(shut.why),
+            (_, None) => Err(Why::Misuse),
+            (Kept::Open(held), Some(kind)) => held.query(name, kind, from, to),
         }
     }
 
@@ -138,8 +158,14 @@ impl Kept {
         number: u32,
         from: u64,
         to: u64,
-    ) -> Result<CInterval, Why> {
-        self.ask(name, kind(number), from, to)
+    ) -> Result<CInterval, Why>
+        requires { IsFit self.old }
+        ensures { IsFit self.new }
+    {
+        match self.ask(name, kind(number), from, to) {
+            Ok(found) => Ok(interval(found)),
+            Err(why) => Err(why),
+        }
     }
 
     /// The same, with the likeliest number.
@@ -149,18 +175,49 @@ impl Kept {
         number: u32,
         from: u64,
         to: u64,
-    ) -> Result<CInterval, Why> {
-        self.ask(name, guess_kind(number), from, to)
+    ) -> Result<CInterval, Why>
+        requires { IsFit self.old }
+        ensures { IsFit self.new }
+    {
+        match self.ask(name, guess_kind(number), from, to) {
+            Ok(found) => Ok(interval(found)),
+            Err(why) => Err(why),
+        }
     }
 
     /// Whether one of these values is `value`.
-    pub fn has(&mut self, name: &[u8], value: i64, from: u64, to: u64) -> Result<u32, Why> {
-        let held = self.held()?;
-        Ok(presence(held.query(name, Kind::Has { value }, from, to)?))
+    pub fn has(&mut self, name: &[u8], value: i64, from: u64, to: u64) -> Result<u32, Why>
+        requires { IsFit self.old }
+        ensures { IsFit self.new }
+    {
+        match self.ask(name, Some(Kind::Has { value }), from, to) {
+            Ok(found) => Ok(presence(found)),
+            Err(why) => Err(why),
+        }
     }
 
     /// How far a stream has come, and what is known of its newest value.
-    pub fn last(&mut self, name: &[u8]) -> Result<CNewest, Why> {
-        Ok(newest(self.held()?.last(name)?))
+    pub fn last(&mut self, name: &[u8]) -> Result<CNewest, Why>
+        requires { IsFit self.old }
+        ensures { IsFit self.new }
+    {
+        match self {
+            Kept::Shut(shut) => Err(shut.why),
+            Kept::Open(held) => match held.last(name) {
+                Ok(found) => Ok(newest(found)),
+                Err(why) => Err(why),
+            },
+        }
+    }
+
+    /// How many streams stand.
+    pub fn streams(&self) -> Result<usize, Why> {
+        match self {
+            Kept::Shut(shut) => Err(shut.why),
+            Kept::Open(held) => match held.ended() {
+                Some(status) => Err(Why::Stopped(status)),
+                None => Ok(held.streams() as usize),
+            },
+        }
     }
 }

@@ -1,8 +1,7 @@
 // What there is to say of a connection that has stopped, in the program's words.
 use crate::descriptors::Descriptors;
-use ss_connection::Text;
 use ss_file::{FileDisk, Reason, Trouble};
-use ss_program::{complaint, refuse};
+use ss_program::complaint;
 use ss_store::OpenError;
 use std::alloc::{AllocError, Global};
 
@@ -29,16 +28,6 @@ pub fn message(
     }
 }
 
-// The line that the program says of a store that it refuses, without its line end.
-fn refusal_text(alloc: Global, error: OpenError) -> Result<String, AllocError> {
-    let mut text = Text::new(alloc)?;
-    let _ = refuse(error, &mut text);
-    match str::from_utf8(text.as_slice()) {
-        Ok(line) => String::from_str(alloc, line.trim_end()),
-        Err(_) => Ok(String::new(alloc)),
-    }
-}
-
 /// The same of a store that wasn't opened.
 pub fn opening_message(
     alloc: Global,
@@ -50,6 +39,6 @@ pub fn opening_message(
         OpenError::Disk | OpenError::OutOfMemory | OpenError::Changed { .. } => {
             message(alloc, number, disk)
         }
-        _ => refusal_text(alloc, error),
+        _ => format!(in alloc; "{error}"),
     }
 }

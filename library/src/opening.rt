@@ -1,4 +1,7 @@
 // How the store of a file is opened, as the program opens it before a run.
+ghost use Rattle.std.specs.Prelude.{IfOk};
+ghost use Rattle.libsummarystore.specs.Kept.{IsFit};
+
 use crate::answer::Why;
 use crate::descriptors::Descriptors;
 use crate::held::Held;
@@ -85,22 +88,27 @@ fn shut(alloc: Global, error: OpenError, disk: &FileDisk<Descriptors>) -> Shut {
 }
 
 // Opens the store at a path.
-fn open_at(alloc: Global, path: String, flags: Flags) -> Kept {
+fn open_at(alloc: Global, path: String, flags: Flags) -> Kept
+    ensures { IsFit result }
+{
     let mut disk = FileDisk::new(Descriptors::new(), path, flags.missing());
     meet(&mut disk, flags.demand());
     match Connection::open(alloc, &mut disk) {
-        Ok(connection) => Kept::Open(Held::new(
+        Ok(connection) => Kept::Open(Held {
             disk,
             connection,
-            flags.is_batch,
-            flags.only_looks,
-        )),
+            is_batch: flags.is_batch,
+            only_looks: flags.only_looks,
+            shown: 0,
+        }),
         Err(error) => Kept::Shut(shut(alloc, error, &disk)),
     }
 }
 
 /// Opens the store at a path, by the bits of the flags. It fails where the call can't be meant, or there is no memory for a box.
-pub fn open(alloc: Global, path: &[u8], bits: u32) -> Result<Box<Kept>, Why> {
+pub fn open(alloc: Global, path: &[u8], bits: u32) -> Result<Box<Kept>, Why>
+    ensures { IfOk result (λ kept. IsFit kept.value) }
+{
     let Some(flags) = Flags::of(bits) else {
         return Err(Why::Misuse);
     };
