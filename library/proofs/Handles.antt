@@ -7,6 +7,7 @@ use mir.Raw.{raw as bare}
 use mir.Syntax.{impl, tnil, dnil}
 use mir.Val.{Val, vptr, vnull, vstruct, of_list, has_ty, WT}
 use base.Logic.{ent, guard, guard_i, never, via, fst∗, snd∗}
+use base.Fml.{ftrue}
 use contract.Monad.{fact_use}
 use types.Logic.{Logic, sem}
 use types.Kit.{Item, Goal, Seq, Step, step, ‵, given, learn, use1, ◌$◌, move, drop, fsplit, fjoin, fpick, fpack, feq_i, feq_l}
@@ -27,6 +28,7 @@ use Rattle.std.specs.contracts.impls.GlobalAllocator.TheImpl.{ghosts}
 use Rattle.std_alloc.proofs.ResultValues.{and_tt}
 use Rattle.std_alloc.specs.Box.Ownership.{box_owns}
 use Rattle.libsummarystore.proofs.Values.{both}
+use Rattle.libsummarystore.specs.Kept.{IsFit}
 use Rattle.libsummarystore.specs.Owned.{owned}
 use Rattle.libsummarystore.specs.contracts.handle.Handle as handle
 use Rattle.libsummarystore.specs.contracts.kept.Kept as kept
@@ -66,12 +68,15 @@ module _ {M : Type 1} {𝓤 : Ura M} {𝓛 : Logic 𝓤} {K : Type 0} {Γ : List
   -- nothing at null, or a box at a pointer that may be compared with null
   pub owned_out : K → (a : Z.Denot) (p : Ptr) (x : Option R.Denot)
       → (x ≡ None → p ≡ null_ptr → Seq K 𝓛 Γ G)
-      → ((b o : ℕ) (y : R.Denot) → x ≡ Some y → p ≡ block_ptr b o → Testable (block_ptr b o) → Seq K 𝓛 (‵ (boxed a (block_ptr b o) y) ∷ Γ) G)
+      → ((b o : ℕ) (y : R.Denot) → x ≡ Some y → IsFit y → p ≡ block_ptr b o → Testable (block_ptr b o) → Seq K 𝓛 (‵ (boxed a (block_ptr b o) y) ∷ Γ) G)
       → Seq K 𝓛 (‵ (owned a p x) ∷ Γ) G
   owned_out t a p None none some = feq_l t (λ e. none refl e)
-  owned_out t a p (Some y) none some =
+  owned_out t a p (Some y) none some = fsplit t $ fpick t (λ fit. drop t $
       in_a_block t p (λ q. boxed a q y) (fst∗ 𝓤 (never 𝓤) (sem 𝓛 (ghosts.dealloc_token a (bare (lone R.mir)) null_ptr))) (λ b o e.
       use1 𝓛 (given (Testable (block_ptr b o)) (‵ (boxed a (block_ptr b o) y)))
       (fact_use 𝓤 (Testable (block_ptr b o)) (via 𝓤 _ (snd∗ 𝓤 (sem 𝓛 (lies_at R base.Fraction.full_share (block_ptr b o) y)) (sem 𝓛 (ghosts.dealloc_token a (bare (lone R.mir)) (block_ptr b o))))
       (dealloc_token-Testable 𝓛 a (bare (lone R.mir)) (block_ptr b o))) (guard_i 𝓤 (Testable (block_ptr b o)) (sem 𝓛 (boxed a (block_ptr b o) y)))) $
-      learn t (λ tests. some b o y refl e tests))
+      learn t (λ tests. some b o y refl fit e tests)))
+
+  pub owned_in : K → (a : Z.Denot) (p : Ptr) (y : R.Denot) → IsFit y → Step K 𝓛 (‵ (owned a p (Some y)) ∷ Γ) G (‵ (boxed a p y) ∷ Γ) G
+  owned_in t a p y fit = step (λ s. nothing t $ fpack t (IsFit y) (λ _. ftrue) fit $ fjoin t $ s)

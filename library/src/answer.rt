@@ -24,9 +24,8 @@ pub enum Why {
     Refused(Refusal),
 }
 
-fn place(refusal: Refusal) -> i32
-    ensures { result ≤ 16 }
-{
+// Its place among the refusals.
+fn place(refusal: Refusal) -> u8 {
     match refusal {
         Refusal::Line => 0,
         Refusal::Syntax => 1,
@@ -56,7 +55,7 @@ impl Why {
             Why::Busy => 5,
             Why::Misuse => 64,
             Why::ReadOnly => 65,
-            Why::Refused(refusal) => 128 + place(refusal),
+            Why::Refused(refusal) => 128 + i32::from(place(refusal)),
         }
     }
 }
