@@ -1,9 +1,10 @@
 // What a call answers.
 ghost use Rattle.std.specs.Prelude.{◌≤◌, IfOk};
+ghost use Rattle.ss_catalog.specs.Series.{IsSeriesInRange};
 ghost use Rattle.ss_base.specs.declared.limits.TheConstants.{LAST_TIME};
 
 use ss_base::LAST_TIME;
-use ss_catalog::{Name, Refusal};
+use ss_catalog::{Kind, MOST_ROWS, Name, Refusal, Series, rows_in};
 use ss_connection::Taken;
 use ss_model::{Ack, Newest, Outcome};
 use ss_program::Status;
@@ -77,6 +78,32 @@ pub fn in_time(time: u64) -> Result<u64, Why>
     } else {
         Err(Why::Refused(Refusal::Number))
     }
+}
+
+/// A series, whose step isn't 0, nor so short that there are too many rows.
+pub fn series_of(
+    name: &[u8],
+    kind: Kind,
+    from: u64,
+    to: u64,
+    step: u64,
+) -> Result<Series, Why>
+    ensures { IfOk result IsSeriesInRange }
+{
+    let from = in_time(from)?;
+    let to = in_time(to)?;
+    let step = in_time(step)?;
+    if step == 0 || rows_in(from, to, step) > u64::from(MOST_ROWS) {
+        return Err(Why::Refused(Refusal::Number));
+    }
+    let name = name_of(name)?;
+    Ok(Series {
+        name,
+        kind,
+        from,
+        to,
+        step,
+    })
 }
 
 // A reply that a call of this kind doesn't have.

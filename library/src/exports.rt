@@ -1,9 +1,9 @@
 // What C calls. library/c/held.h has it in C's words.
-use crate::answer::Why;
+use crate::answer::{Why, series_of};
 use crate::handle::Handle;
 use crate::kept::Kept;
 use crate::opening::open;
-use crate::shapes::{CAck, CInterval, CNewest, CTarget, ack};
+use crate::shapes::{CAck, CInterval, CNewest, CTarget, ack, kind};
 use ss_connection::Taken;
 use std::alloc::Global;
 
@@ -231,6 +231,31 @@ pub extern "C" fn summarystore_held_estimate(
     let estimated = kept.estimate(name, kind, from, to);
     *handle = Handle::of(kept);
     hand_out(estimated, found)
+}
+
+/// The queries of `step` times each, from `from` on.
+#[unsafe(no_mangle)]
+pub extern "C" fn summarystore_held_series(
+    alloc: Global,
+    handle: &mut Handle,
+    name: &[u8],
+    number: u32,
+    from: u64,
+    to: u64,
+    step: u64,
+    rows: &mut [CInterval],
+    count: &mut usize,
+) -> i32 {
+    let Some(mut kept) = handle.take(alloc) else {
+        return Why::Misuse.number();
+    };
+    let series = match kind(number) {
+        Some(kind) => series_of(name, kind, from, to, step),
+        None => Err(Why::Misuse),
+    };
+    let asked = kept.series(series, rows);
+    *handle = Handle::of(kept);
+    hand_out(asked, count)
 }
 
 /// Whether one of these values is `value`.

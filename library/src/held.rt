@@ -1,9 +1,11 @@
 // A connection with its disk.
 ghost use Rattle.std.specs.Prelude.{◌≤◌, length, IfOk};
+ghost use Rattle.ss_catalog.specs.Series.{IsSeriesInRange};
 ghost use Rattle.libsummarystore.specs.Held.{IsReady};
 
 use crate::answer::{Why, ack_of, in_time, name_of, newest_of, outcome_of, taken_of};
 use crate::fill::fill;
+use crate::shapes::{CInterval, interval};
 use ss_catalog::{Event, Kind, Params, Query, Series};
 use ss_command::{Command, LINE_END, LONGEST_LINE, parse};
 use ss_connection::{Connection, Taken};
@@ -178,6 +180,38 @@ impl<D: Disk> Held<D> {
             from,
             to,
         }))?)
+    }
+
+    // The answer to a query that is one.
+    fn known(&mut self, query: Query) -> Result<Outcome, Why>
+        requires { IsReady D.seen self.old }
+        ensures ready { IsReady D.seen self.new }
+    {
+        outcome_of(self.ask(&Question::Query(query))?)
+    }
+
+    /// The queries of a series: how many there are, and the answers to the first of them, as many as there is room for.
+    pub fn series(&mut self, series: &Series, rows: &mut [CInterval]) -> Result<usize, Why>
+        requires ready { IsReady D.seen self.old }
+        requires range { IsSeriesInRange series.now }
+        ensures ready { IsReady D.seen self.new }
+    {
+        let count = series.rows() as usize;
+        if count == 0 || rows.is_empty() {
+            self.known(Query {
+                name: series.name,
+                kind: series.kind,
+                from: series.from,
+                to: series.to,
+            })?;
+        }
+        let shown = count.min(rows.len());
+        let mut k = 0;
+        while k < shown {
+            rows[k] = interval(self.known(series.row(k as u32))?);
+            k += 1;
+        }
+        Ok(count)
     }
 
     /// How far a stream has come, and what is known of its newest value.

@@ -1,5 +1,6 @@
 // What stands behind a handle.
 ghost use Rattle.std.specs.Prelude.{◌≤◌, length, IfOk};
+ghost use Rattle.ss_catalog.specs.Series.{IsSeriesInRange};
 ghost use Rattle.libsummarystore.specs.Kept.{IsFit};
 
 use crate::answer::Why;
@@ -10,7 +11,7 @@ use crate::message::message;
 use crate::shapes::{
     CAck, CInterval, CNewest, CTarget, ack, guess_kind, interval, kind, newest, params, presence,
 };
-use ss_catalog::Kind;
+use ss_catalog::{Kind, Series};
 use ss_connection::Taken;
 use ss_file::FileDisk;
 use ss_model::Outcome;
@@ -193,6 +194,19 @@ impl Kept {
         match self.ask(name, Some(Kind::Has { value }), from, to) {
             Ok(found) => Ok(presence(found)),
             Err(why) => Err(why),
+        }
+    }
+
+    /// The queries of so many times each, from `from` on: how many there are, and the answers to the first of them.
+    pub fn series(&mut self, series: Result<Series, Why>, rows: &mut [CInterval]) -> Result<usize, Why>
+        requires fit { IsFit self.old }
+        requires range { IfOk series IsSeriesInRange }
+        ensures { IsFit self.new }
+    {
+        match (self, series) {
+            (Kept::Shut(shut), _) => Err(shut.why),
+            (_, Err(why)) => Err(why),
+            (Kept::Open(held), Ok(series)) => held.series(&series, rows),
         }
     }
 
