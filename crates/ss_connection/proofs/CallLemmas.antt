@@ -1,7 +1,7 @@
 -- What calls of a connection answer.
 use Rattle.ss_connection.specs.Calls.{Called, stop_of}
 use Rattle.ss_connection.proofs.HoldsLemmas.{first-none}
-use Rattle.ss_connection.specs.Holds.{ConnectionState, IsUsable}
+use Rattle.ss_connection.specs.Holds.{ConnectionState, IsGoing, IsUsable}
 use Rattle.ss_connection.specs.Opens.{OpensHeld}
 use Rattle.ss_program.specs.declared.status.Status.{Status}
 use Rattle.ss_outside.specs.Verdict.{no_memory}
@@ -24,20 +24,20 @@ Called-over status is none usable = record {
 }
 
 usable-after : {T : Type 0} (disk : DiskView) (is : ConnectionState) (result : Result T Status) → is.ended ≡ stop_of result →
-    OnOk result (IsServing disk is.store) → IsUsable disk is
-usable-after disk is (Ok value) ends serves going = serves
-usable-after disk is (Err status) ends serves going = cc
+    OnOk result (IsGoing disk is) → IsUsable disk is
+usable-after disk is (Ok value) ends goes going = goes
+usable-after disk is (Err status) ends goes going = cc
 
 -- and one that goes on does its work
 pub Called-made : {T : Type 0} {was is : ConnectionState} {untouched : Type 0} {old new : DiskView} {R : Told → Told → Type 0} (result : Result T Status) →
     was.ended ≡ None → Step (disk_verdict (ended result)) old new R → IfErr result (IsApplyStop old.tells) → is.ended ≡ stop_of result →
-    OnOk result (IsServing new is.store) → Called was is untouched result old new R
-Called-made {is = is} {new = new} result going step cause ends serves = record {
+    OnOk result (IsGoing new is) → Called was is untouched result old new R
+Called-made {is = is} {new = new} result going step cause ends goes = record {
   over = rw going tt;
   goes = λ _. step;
   cause = λ _. cause;
   ends = ends;
-  usable = usable-after new is result ends serves;
+  usable = usable-after new is result ends goes;
 }
 
 -- the verdict of an error is the same, whatever would have been opened
@@ -93,3 +93,13 @@ Opens-starved {disk = disk} knows = record {
 -- what ends a call that reads ends one that applies an event
 pub disk-apply : {T : Type 0} (tells : Bool) (result : Result T Status) → IfErr result (IsDiskStop tells) → IfErr result (IsApplyStop tells)
 disk-apply tells result stop = grind (arith, common_steps)
+
+-- where no rows are left, the store can be called and that is all
+pub goes-on : {T : Type 0} (disk : DiskView) (is : ConnectionState) (result : Result T Status) → is.rows ≡ None → OnOk result (IsServing disk is.store) →
+    OnOk result (IsGoing disk is)
+goes-on disk is result none serves =
+    on_ok_weaker result (λ (serving : IsServing disk is.store). record { serves = serving; rows = rw none tt }) serves
+
+pub opens-serve : {T : Type 0} (disk : DiskView) (store : StoreState) (result : Result T Status) → OnOk result (IsOpen disk store) →
+    OnOk result (IsServing disk store)
+opens-serve disk store result opens = on_ok_weaker result (λ (is_open : IsOpen disk store). is_open.serves) opens

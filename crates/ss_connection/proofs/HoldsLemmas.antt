@@ -142,3 +142,17 @@ Brings-read {history = history} {is = is} {old = old} {new = new} result knows h
       any_moment = weaker old new old.may_leave (StandsForFirst history [])
           (λ image left. of_content old (StandsForFirst history []) held.durable held.within image left) (read_leaves old new knows reads);
     }
+
+-- A call that only reads leaves all as it is, whatever is staged.
+pub Adds-read : {T : Type 0} {history : History} {staged : List Happened} {was is : RecordsState} {old new : Told} (result : Result T Status) →
+    KnowsNow old → Holds history staged was old → OnOk result (shown_by is new.content ≡ shown_by was old.content) → OnlyReads old new →
+    Adds history staged [] is old new result
+Adds-read {history = history} {staged = staged} {was = was} {is = is} {old = old} {new = new} result knows held same reads = record {
+  holds = on_ok_weaker result (λ (shows : shown_by is new.content ≡ shown_by was old.content). record {
+    shown = rw (append-nil, shows) held.shown;
+    within = rw (append-nil, reads.same.content) held.within;
+    durable = nothing_pending-same old new reads.same held.durable;
+  }) same;
+  any_moment = rw append-nil (weaker old new old.may_leave (StandsForFirst history staged)
+      (λ image left. of_content old (StandsForFirst history staged) held.durable held.within image left) (read_leaves old new knows reads));
+}

@@ -1,60 +1,73 @@
 -- What is said to a line, and what the line does.
-use Rattle.ss_connection.proofs.HoldsLemmas.{Brings-read, first-behind, first-more, shows-open}
-use Rattle.ss_connection.specs.Calls.{AppliesHeld, Brings, SaysHeld, SaysOpen, SealsHeld}
-use Rattle.ss_connection.specs.Holds.{Holds}
+use Rattle.ss_connection.proofs.HoldsLemmas.{Brings-read, first-behind, first-more, shows-open, stands-open}
+use Rattle.ss_connection.specs.Calls.{AppliesHeld, Brings, SaysFurther, SaysHeld, SaysOpen, SealsHeld}
+use Rattle.ss_connection.specs.Holds.{Holds, text_left}
+use Rattle.ss_connection.specs.Showing.{Fills}
+use Rattle.ss_program.proofs.Common.{◌≡◌, ◌∙◌, ◌++◌, ◌∷◌, [], ℕ, List, None, Some, Ok, Err, OnOk, Option, Result, ap, append_assoc, append-nil, joined, on_ok_weaker}
+use Rattle.ss_program.proofs.Common.{sym, Brought, History, IsOneReply, KnowsNow, LeavesOnly, OnlyReads, ReadsAnswer, RecordsState, Reply, StandsForFirst, StoreState}
+use Rattle.ss_program.proofs.Common.{Told, flat_map, reply_line, shown_by, text_brought, the_event, weaker, history_after}
+use Rattle.ss_program.specs.declared.rows.Rows.{Rows}
+use Rattle.std.specs.Prelude.{IfOk}
 use Rattle.ss_program.specs.declared.status.Status.{Status}
-use Rattle.ss_program.proofs.Common.{◌≡◌, ◌∙◌, ◌++◌, ◌∷◌, [], ℕ, List, None, Ok, Err, OnOk, Option, Result, ap, append_assoc, append-nil, joined, on_ok_weaker, sym}
-use Rattle.ss_program.proofs.Common.{Brought, History, IsOneReply, KnowsNow, LeavesOnly, OnlyReads, ReadsAnswer, RecordsState, Reply, StandsForFirst, Told}
-use Rattle.ss_program.proofs.Common.{Some, appended, flat_map, reply_line, text_said, shown_by, text_brought, the_event, weaker}
 
 -- the text of one reply
-pub said-one : {said : List ℕ} (brought : Brought) (reply : Reply) → said ≡ reply_line reply → brought.replies ≡ reply ∷ [] → said ≡ text_brought brought
+pub said-one : {said : List ℕ} (brought : Brought) (reply : Reply) → said ≡ reply_line reply → brought.replies ≡ reply ∷ [] → text_brought brought ≡ said
 said-one brought reply says is =
-    says ∙ sym (append-nil (reply_line reply)) ∙ sym (ap (λ (rs : List Reply). flat_map reply_line rs) is)
+    ap (λ (rs : List Reply). flat_map reply_line rs) is ∙ append-nil (reply_line reply) ∙ sym says
 
--- what an empty text holds, to which this was sent
-pub said-sent : {before said : List ℕ} (brought : Brought) → before ≡ [] → Some said ≡ appended (Some before) (text_said None brought) →
-    said ≡ text_brought brought
-said-sent brought empty sent = let same = rw empty at sent in cc
+-- what is brought by another name
+pub Applies-as : {a b : History → Brought} {was is : RecordsState} {old new : Told} (result : Result Reply Status) → ((history : History) → a history ≡ b history) →
+    AppliesHeld a was is result old new → AppliesHeld b was is result old new
+Applies-as result same applies = record { each = λ history staged held. rw (same (history ++ staged)) at (applies.each history staged held) }
 
-module _ {brought : History → Brought} {was is : RecordsState} {said : List ℕ} {old new : Told} where
+module _ {brought : History → Brought} {was is : StoreState} {said : List ℕ} {old new : Told} where
   -- an event was done, and its reply is said
-  pub Says-applied : (reply : Reply) → said ≡ reply_line reply → AppliesHeld brought was is (Ok reply) old new → SaysOpen brought was is said (Ok tt) old new
+  pub Says-applied : (reply : Reply) → said ≡ reply_line reply → AppliesHeld brought was.records is.records (Ok reply) old new →
+      SaysOpen brought was is said (Ok None) old new
   Says-applied reply says applies = record {
     each = λ history held.
         let did = applies.each history [] held in
         let result : Result Reply Status = Ok reply in
-        let brings : Brings history (the_event (brought history).event) is old new result = rw append-nil at did.0 in
-        (record { holds = brings.holds; any_moment = brings.any_moment }, said-one (brought history) reply says (rw append-nil at did.1));
+        let brings : Brings history (the_event (brought history).event) is.records old new result = rw append-nil at did.0 in
+        (
+          record { holds = brings.holds; any_moment = brings.any_moment },
+          said-one (brought history) reply says (rw append-nil at did.1) ∙ sym (append-nil said),
+        );
   }
 
-  pub Says-unapplied : (status : Status) → AppliesHeld brought was is (Err status) old new → SaysOpen brought was is said (Err status) old new
+  pub Says-unapplied : (status : Status) → AppliesHeld brought was.records is.records (Err status) old new → SaysOpen brought was is said (Err status) old new
   Says-unapplied status applies = record {
     each = λ history held.
         let did = applies.each history [] held in
         let result : Result Reply Status = Err status in
-        let brings : Brings history (the_event (brought history).event) is old new result = rw append-nil at did.0 in
+        let brings : Brings history (the_event (brought history).event) is.records old new result = rw append-nil at did.0 in
         (record { holds = tt; any_moment = brings.any_moment }, tt);
   }
 
   -- what only reads brings no event
-  pub Says-read : (result : Result (Unit {0}) Status) → KnowsNow old → ((history : History) → (brought history).event ≡ None) →
-      OnOk result (shown_by is new.content ≡ new.content) → OnlyReads old new →
-      ((history : History) → Holds history [] was old → OnOk result (said ≡ text_brought (brought history))) → SaysOpen brought was is said result old new
+  pub Says-read : (result : Result (Option Rows) Status) → KnowsNow old → ((history : History) → (brought history).event ≡ None) →
+      OnOk result (shown_by is.records new.content ≡ new.content) → OnlyReads old new →
+      ((history : History) → Holds history [] was.records old →
+      IfOk result (λ rows. text_brought (brought history) ≡ said ++ text_left rows is.streams history)) → SaysOpen brought was is said result old new
   Says-read result knows none same reads says = record {
-    each = λ history held. (rw none (Brings-read result knows held same reads), says history held);
+    each = λ history held. (
+      rw (none history) (Brings-read result knows held same reads),
+      rw (none history, append-nil) (says history held),
+    );
   }
 
   -- a question was asked, and its answer is said
-  pub Says-asked : (reply : Reply) → KnowsNow old → ((history : History) → (brought history).event ≡ None) → shown_by is new.content ≡ new.content →
-      said ≡ reply_line reply → ReadsAnswer (IsOneReply was brought) (Ok reply) old new → SaysOpen brought was is said (Ok tt) old new
+  pub Says-asked : (reply : Reply) → KnowsNow old → ((history : History) → (brought history).event ≡ None) →
+      shown_by is.records new.content ≡ new.content → said ≡ reply_line reply → ReadsAnswer (IsOneReply was.records brought) (Ok reply) old new →
+      SaysOpen brought was is said (Ok None) old new
   Says-asked reply knows none same says asks =
-      Says-read (Ok tt) knows none same asks.reads (λ history held. said-one (brought history) reply says (asks.answer history (shows-open held)))
+      Says-read (Ok None) knows none same asks.reads
+      (λ history held. said-one (brought history) reply says (asks.answer history (shows-open held)) ∙ sym (append-nil said))
 
 -- What is staged came to the disk, and then what a line brings.
-module _ {brought : History → Brought} {was mid is : RecordsState} {said : List ℕ} {old then new : Told} where
-  pub Says-sealed : (result : Result (Unit {0}) Status) → SealsHeld was mid (Ok tt) old then → SaysOpen brought mid is said result then new →
-      SaysHeld brought was is said result old new
+module _ {brought : History → Brought} {was mid is : StoreState} {said : List ℕ} {old then new : Told} where
+  pub Says-sealed : (result : Result (Option Rows) Status) → SealsHeld was.records mid.records (Ok tt) old then →
+      SaysOpen brought mid is said result then new → SaysHeld brought was is said result old new
   Says-sealed result seals says = record {
     each = λ history staged held.
         let before = seals.each history staged held in
@@ -62,7 +75,7 @@ module _ {brought : History → Brought} {was mid is : RecordsState} {said : Lis
         let did = says.each (history ++ staged) before.holds in
         let P = StandsForFirst history (staged ++ more) in (
           record {
-            holds = on_ok_weaker result (λ (holds : Holds ((history ++ staged) ++ more) [] is new). rw append_assoc at holds) did.0.holds;
+            holds = on_ok_weaker result (λ (holds : Holds ((history ++ staged) ++ more) [] is.records new). rw append_assoc at holds) did.0.holds;
             any_moment = joined old then new P
                 (weaker old then (StandsForFirst history staged) P (λ image some. first-more history staged more image some) before.any_moment)
                 (weaker then new (StandsForFirst (history ++ staged) more) P (λ image some. first-behind history staged more image some)
@@ -72,8 +85,8 @@ module _ {brought : History → Brought} {was mid is : RecordsState} {said : Lis
         );
   }
 
-pub Says-unsealed : {brought : History → Brought} {was is : RecordsState} {said : List ℕ} {old new : Told} (status : Status) →
-    SealsHeld was is (Err status) old new → SaysHeld brought was is said (Err status) old new
+pub Says-unsealed : {brought : History → Brought} {was is : StoreState} {said : List ℕ} {old new : Told} (status : Status) →
+    SealsHeld was.records is.records (Err status) old new → SaysHeld brought was is said (Err status) old new
 Says-unsealed {brought = brought} {old = old} {new = new} status seals = record {
   each = λ history staged held.
       let before = seals.each history staged held in

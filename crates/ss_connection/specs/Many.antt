@@ -1,5 +1,5 @@
 -- Values that are appended together.
-use Rattle.std.specs.Prelude.{◌≡◌, ◌++◌, ◌∷◌, ◌<◌, ◌≤◌, [], ℕ, ℤ, List, Option, None, Some, Result, IfOk, length, map, take, drop, ⊤}
+use Rattle.std.specs.Prelude.{◌≡◌, ◌++◌, ◌∷◌, ◌<◌, ◌≤◌, [], ℕ, ℤ, List, Option, None, Some, Result, IfOk, length, map, slice_get, take, drop, ⊤}
 use Rattle.ss_catalog.specs.declared.event.Event.{Event}
 use Rattle.ss_catalog.specs.declared.event.Event.TheVariants.{Value}
 use Rattle.ss_catalog.specs.declared.refusal.Refusal.{Refusal}
@@ -22,6 +22,10 @@ abbrev pub values_at : List ℕ → List ℕ → List ℤ → List Event
 values_at name [] values = []
 values_at name (t ∷ times) [] = []
 values_at name (t ∷ times) (v ∷ values) = Value name t v ∷ values_at name times values
+
+-- this event is the one at a place of these, and of the stream of their name
+abbrev pub IsEventAt : List Event → ℕ → Event → Type 0
+IsEventAt events place event = slice_get events place ≡ Some event
 
 -- each event is accepted after a history and those before it
 abbrev pub AreAccepted : History → List Event → Type 0

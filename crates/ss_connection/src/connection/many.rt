@@ -1,8 +1,8 @@
 // Values that are appended together.
-ghost use Rattle.std.specs.Prelude.{◌≡◌, IfErr, OnOk};
+ghost use Rattle.std.specs.Prelude.{◌≡◌, ◌<◌, length, IfErr, OnOk};
 ghost use Rattle.ss_connection.specs.Calls.{Called};
 ghost use Rattle.ss_connection.specs.Holds.{IsUsable};
-ghost use Rattle.ss_connection.specs.Many.{AppliesMany, StagesMany, values_at};
+ghost use Rattle.ss_connection.specs.Many.{AppliesMany, IsEventAt, StagesMany, values_at};
 ghost use Rattle.ss_outside.specs.Step.{Step};
 ghost use Rattle.ss_program.specs.Answer.{IsOpen, IsServing};
 ghost use Rattle.ss_program.specs.Status.{IsApplyStop, disk_verdict, ended};
@@ -23,6 +23,19 @@ pub struct Taken {
     pub count: usize,
     pub last: Option<Ack>,
     pub refusal: Option<Refusal>,
+}
+
+// The event of the value at a place.
+fn event_at(name: &Name, times: &[u64], values: &[i64], place: usize) -> Event
+    requires times { place < length times.now }
+    requires values { place < length values.now }
+    ensures { IsEventAt (values_at name.now times.now values.now) place result }
+{
+    Event::Value {
+        name: *name,
+        t: times[place],
+        v: values[place],
+    }
 }
 
 // Stages values at times, one after another, up to the first that is refused.
@@ -46,11 +59,7 @@ fn stage_values<D: Disk>(
     };
     let most = times.len().min(values.len());
     while taken.count < most {
-        let event = Event::Value {
-            name: *name,
-            t: times[taken.count],
-            v: values[taken.count],
-        };
+        let event = event_at(name, times, values, taken.count);
         match stage_event(store, &event, disk)? {
             Reply::Done(ack) => {
                 taken.count += 1;

@@ -2,7 +2,7 @@ use Rattle.ss_connection.proofs.SaysLemmas.{Says-asked, Says-read}
 use Rattle.ss_program.proofs.AnswerLemmas.{question-event}
 use Rattle.ss_program.proofs.Common.{◌≡◌, Err, rules, shown-sealed}
 use Rattle.ss_program.proofs.StepLemmas.{step-given}
-use Rattle.ss_connection.proofs.connection.lines.answer.Goals as goal
+use Rattle.ss_connection.proofs.connection.lines.say_answer.Goals as goal
 
 pub returns-in_err-reply-clause-says : goal.returns-in_err-reply-clause-says
 returns-in_err-reply-clause-says g c =
