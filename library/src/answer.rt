@@ -1,0 +1,148 @@
+// What a call answers.
+ghost use Rattle.std.specs.Prelude.{◌≤◌, IfOk};
+ghost use Rattle.ss_catalog.specs.Series.{IsSeriesInRange};
+ghost use Rattle.ss_base.specs.declared.limits.TheConstants.{LAST_TIME};
+
+use ss_base::LAST_TIME;
+use ss_catalog::{Kind, MOST_ROWS, Name, Refusal, Series, rows_in};
+use ss_connection::Taken;
+use ss_model::{Ack, Newest, Outcome};
+use ss_program::Status;
+use ss_report::Reply;
+
+/// Why a call isn't done.
+#[derive(Clone, Copy, Debug)]
+pub enum Why {
+    /// The connection has stopped.
+    Stopped(Status),
+    /// Another connection or another process has the file.
+    Busy,
+    /// A call that can't be meant.
+    Misuse,
+    /// An event, by a connection that only looks.
+    ReadOnly,
+    /// The program's grammar refuses it.
+    Refused(Refusal),
+}
+
+// Its place among the refusals.
+fn place(refusal: Refusal) -> u8 {
+    match refusal {
+        Refusal::Line => 0,
+        Refusal::Syntax => 1,
+        Refusal::Number => 2,
+        Refusal::Name => 3,
+        Refusal::Param => 4,
+        Refusal::Exists => 5,
+        Refusal::Streams => 6,
+        Refusal::Unknown => 7,
+        Refusal::Open => 8,
+        Refusal::NotOpen => 9,
+        Refusal::Time => 10,
+        Refusal::Range => 11,
+        Refusal::StreamFull => 12,
+        Refusal::StoreFull => 13,
+        Refusal::Busy => 14,
+        Refusal::NoCursor => 15,
+        Refusal::Frame => 16,
+    }
+}
+
+impl Why {
+    /// Its number in C, where 0 says that a call is done.
+    pub fn number(self) -> i32 {
+        match self {
+            Why::Stopped(status) => i32::from(status.number()),
+            Why::Busy => 5,
+            Why::Misuse => 64,
+            Why::ReadOnly => 65,
+            Why::Refused(refusal) => 128 + i32::from(place(refusal)),
+        }
+    }
+}
+
+/// The name that these bytes spell.
+pub fn name_of(word: &[u8]) -> Result<Name, Why> {
+    match Name::of(word) {
+        Some(name) => Ok(name),
+        None => Err(Why::Refused(Refusal::Name)),
+    }
+}
+
+/// A time that is one.
+pub fn in_time(time: u64) -> Result<u64, Why>
+    ensures { IfOk result (λ time. time ≤ LAST_TIME) }
+{
+    if time <= LAST_TIME {
+        Ok(time)
+    } else {
+        Err(Why::Refused(Refusal::Number))
+    }
+}
+
+/// A series, whose step isn't 0, nor so short that there are too many rows.
+pub fn series_of(
+    name: &[u8],
+    kind: Kind,
+    from: u64,
+    to: u64,
+    step: u64,
+) -> Result<Series, Why>
+    ensures { IfOk result IsSeriesInRange }
+{
+    let from = in_time(from)?;
+    let to = in_time(to)?;
+    let step = in_time(step)?;
+    if step == 0 || rows_in(from, to, step) > u64::from(MOST_ROWS) {
+        return Err(Why::Refused(Refusal::Number));
+    }
+    let name = name_of(name)?;
+    Ok(Series {
+        name,
+        kind,
+        from,
+        to,
+        step,
+    })
+}
+
+// A reply that a call of this kind doesn't have.
+fn other(reply: Reply) -> Why {
+    match reply {
+        Reply::Refused(refusal) => Why::Refused(refusal),
+        _ => Why::Misuse,
+    }
+}
+
+/// What is acknowledged of an event.
+pub fn ack_of(reply: Result<Reply, Status>) -> Result<Ack, Why> {
+    match reply {
+        Ok(Reply::Done(ack)) => Ok(ack),
+        Ok(reply) => Err(other(reply)),
+        Err(status) => Err(Why::Stopped(status)),
+    }
+}
+
+/// What was taken of values. A time that is none is a number that is none.
+pub fn taken_of(taken: Result<Taken, Status>) -> Result<Taken, Why> {
+    match taken {
+        Ok(taken) => Ok(taken),
+        Err(status) => Err(Why::Stopped(status)),
+    }
+}
+
+/// The answer to a query.
+pub fn outcome_of(reply: Reply) -> Result<Outcome, Why> {
+    match reply {
+        Reply::Answered(outcome) => Ok(outcome),
+        reply => Err(other(reply)),
+    }
+}
+
+/// How far a stream has come.
+pub fn newest_of(reply: Reply) -> Result<Newest, Why> {
+    match reply {
+        Reply::Last(newest) => Ok(newest),
+        reply => Err(other(reply)),
+    }
+}
