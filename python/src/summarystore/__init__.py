@@ -3,8 +3,8 @@
 from __future__ import annotations
 
 import datetime
-import os
 
+from .backends import File, Name as Backend
 from .certificate import Certificate
 from .clock import Clock
 from .connecting import RemoteStore, connect
@@ -31,7 +31,8 @@ __version__ = "1.0.0"
 
 
 def open(path: StorePath, *, zone: str | datetime.tzinfo | None = None, existing: bool = False,
-         checked: bool | None = None, program: str | os.PathLike[str] | None = None) -> Store:
+         checked: bool | None = None, program: File | None = None, backend: Backend | None = None,
+         library: File | None = None) -> Store:
     """Opens a store, and makes it where there is none: with `existing` that raises NoStoreError.
 
     A store that is made is checked: its file tells of each record whether it is as it was written. With
@@ -40,9 +41,12 @@ def open(path: StorePath, *, zone: str | datetime.tzinfo | None = None, existing
 
     Its streams may have long names, scales and clock times. Times without a zone are those of `zone`,
     where it is given, such as Europe/Berlin.
+
+    It is asked by the `backend` that is named: the `library` in this process, or the `program` as one of its
+    own. Else it is the library, where it is found and no program is given.
     """
     return Store(path, program=program, translator=Names(path, zone), existing=existing,
-                 checked=checked)
+                 checked=checked, backend=backend, library=library)
 
 
 def now(resolution: str = "s") -> datetime.datetime:

@@ -332,7 +332,7 @@ class Store(Channel, Questions):
                 self._changed.wait(LOOK_AGAIN)
                 self._close_let_go()
             old = self._up()
-            while not old.pipeline.idle:
+            while not old.idle:
                 self._pump()
             if self._connection is old:
                 self._put_down(old)
