@@ -12,7 +12,10 @@ import pytest
 from hypothesis import HealthCheck, settings
 
 import summarystore
-from summarystore.errors import CommandError, ProgramMissingError, UnknownStreamError
+from summarystore import backends
+from summarystore.errors import (CommandError, LibraryMissingError, ProgramMissingError,
+                                 UnknownStreamError)
+from summarystore.library import find_library
 from summarystore.program import find_program
 from summarystore.store import Store
 
@@ -40,6 +43,33 @@ def program() -> str:
         pytest.fail(str(error))
 
 
+def pytest_generate_tests(metafunc: pytest.Metafunc) -> None:
+    """What has a backend is tested over both, but for what is marked as one of the program alone."""
+    if "backend" in metafunc.fixturenames:
+        alone = metafunc.definition.get_closest_marker("by_program") is not None
+        metafunc.parametrize("backend", ["program"] if alone else backends.NAMES, indirect=True)
+
+
+@pytest.fixture(autouse=True)
+def by_program(monkeypatch: pytest.MonkeyPatch) -> None:
+    """The program is what a test asks that doesn't say anything else, whatever is installed."""
+    monkeypatch.setattr(backends, "DEFAULT", "program")
+
+
+@pytest.fixture
+def backend(request: pytest.FixtureRequest, by_program: None, program: str,
+            monkeypatch: pytest.MonkeyPatch) -> str:
+    """By what the stores of a test are asked. `.ci/python` says which library that is."""
+    name = str(request.param)
+    if name == "library":
+        try:
+            find_library()
+        except LibraryMissingError:
+            pytest.skip("what is asked by the library: it isn't built (make lib)")
+    monkeypatch.setattr(backends, "DEFAULT", name)
+    return name
+
+
 @pytest.fixture
 def folder() -> Iterator[Path]:
     """An empty folder, in memory where there is some."""
@@ -56,14 +86,14 @@ def path(folder: Path, program: str) -> Path:
 
 
 @pytest.fixture
-def store(path: Path) -> Iterator[Store]:
+def store(path: Path, backend: str) -> Iterator[Store]:
     """A store with names and scales."""
     with summarystore.open(path) as opened:
         yield opened
 
 
 @pytest.fixture
-def plain(path: Path) -> Iterator[Store]:
+def plain(path: Path, backend: str) -> Iterator[Store]:
     """A store of whole numbers."""
     with Store(path) as opened:
         yield opened

@@ -14,6 +14,8 @@ from .program import find_program
 
 Name = Literal["library", "program"]
 NAMES: Sequence[Name] = ("library", "program")
+DEFAULT: Name | None = None
+"""What is taken where a call names nothing. Without it the library, where it is found."""
 File = str | os.PathLike[str]
 C = TypeVar("C", bound=Connection, covariant=True)
 
@@ -61,11 +63,13 @@ def backend_of(name: str | None, program: File | None, library: File | None) -> 
     """The one that is named. Else the library, where it is found and no program is named, or the program."""
     if name is not None and name not in NAMES:
         raise ValueError(f"the backend is one of {', '.join(NAMES)}, and not {name!r}")
-    if name == "program" or name is None and library is None and program is not None:
+    if name is None:
+        name = "library" if library is not None else "program" if program is not None else DEFAULT
+    if name == "program":
         return ByProgram(program)
     try:
         return ByLibrary(library)
     except LibraryMissingError:
-        if name is not None or library is not None or libraries.is_named():
+        if name is not None or libraries.is_named():
             raise
     return ByProgram(program)

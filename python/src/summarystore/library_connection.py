@@ -45,6 +45,8 @@ class LibraryConnection(Connection):
     def poll(self) -> None:
         """Does what is queued, and brings it to the disk."""
         work = self._work
+        if work.handle.status:
+            return      # it couldn't be opened
         try:
             for task in list(work.tasks):
                 task.go_on(work)

@@ -3,7 +3,7 @@
 from __future__ import annotations
 
 import re
-from collections.abc import Callable, Hashable, Sequence
+from collections.abc import Callable, Hashable
 from typing import NamedTuple
 
 from .wire import MOST_ROWS, Reply
@@ -14,21 +14,22 @@ CLOSE = "cursor close"
 
 
 class Cursor(NamedTuple):
-    """What is left to be shown, and the last line that was done with its reply."""
+    """The line that was done last, its reply, the text of all windows, and where the next one begins."""
 
     line: Hashable
     reply: Reply
-    rows: Sequence[str]
+    text: bytearray
     at: int
 
 
 class Cursors:
-    """The cursor of each session. A line is named, so that one that was done isn't done again."""
+    """The cursor of each session. Lines have names, so that one that was done isn't done again."""
 
     def __init__(self) -> None:
         self._open: dict[int, Cursor] = {}
 
-    def reply(self, session: int, named: Hashable, line: str, ask: Callable[[str], Reply]) -> Reply | None:
+    def reply(self, session: int, named: Hashable, line: str, ask: Callable[[str], tuple[str, bytearray]]
+              ) -> Reply | None:
         """The reply to a line of a session: None where it is about no cursor."""
         cursor = self._open.get(session)
         if cursor is not None and cursor.line == named:
@@ -37,18 +38,18 @@ class Cursors:
         if opened is not None:
             if cursor is not None:
                 return Reply("refused BUSY")
-            return self._opened(session, named, ask(f"windows {opened[1]}"))
+            return self._opened(session, named, *ask(f"windows {opened[1]}"))
         if further is not None:
             return self._next(session, named, int(further[1]), cursor)
         if line == CLOSE:
             return Reply("refused NO_CURSOR" if self._open.pop(session, None) is None else "closed")
         return None
 
-    def _opened(self, session: int, named: Hashable, found: Reply) -> Reply:
-        if found.head.startswith("refused "):
-            return found
-        reply = Reply(f"cursor {len(found.rows)}")
-        self._open[session] = Cursor(named, reply, found.rows, 0)
+    def _opened(self, session: int, named: Hashable, head: str, text: bytearray) -> Reply:
+        if head.startswith("refused "):
+            return Reply(head)
+        reply = Reply(head.replace("windows", "cursor", 1))
+        self._open[session] = Cursor(named, reply, text, 0)
         return reply
 
     def _next(self, session: int, named: Hashable, count: int, cursor: Cursor | None) -> Reply:
@@ -56,7 +57,10 @@ class Cursors:
             return Reply("refused NUMBER")
         if cursor is None:
             return Reply("refused NO_CURSOR")
-        rows = cursor.rows[cursor.at:cursor.at + count]
+        rows, end = [], cursor.at
+        while len(rows) < count and end < len(cursor.text):
+            begin, end = end, cursor.text.index(b"\n", end) + 1
+            rows.append(cursor.text[begin:end - 1].decode("ascii"))
         reply = Reply(f"rows {len(rows)}", rows)
-        self._open[session] = Cursor(named, reply, cursor.rows, cursor.at + len(rows))
+        self._open[session] = Cursor(named, reply, cursor.text, end)
         return reply

@@ -10,7 +10,6 @@ from __future__ import annotations
 import re
 from array import array
 from collections import deque
-from collections.abc import Sequence
 from ctypes import c_size_t
 from typing import Any, Protocol
 
@@ -70,23 +69,25 @@ class Work:
 
     def ask(self, line: str) -> Reply:
         """The reply to a question, with all its rows."""
-        if is_too_long(line):
-            return Reply("refused LINE")
-        text = Text()
-        self.call(line, text)
-        head, _, rest = text.content.decode("utf-8").partition("\n")
-        return Reply(head, self._rows(rest, rows_after(head)))
+        head, rows = self.text(line)
+        return Reply(head, rows.decode("utf-8").split("\n")[:-1] if rows else [])
 
-    def _rows(self, begin: str, wanted: int) -> Sequence[str]:
-        """So many rows, of which these are the first."""
-        pieces, found = [begin], begin.count("\n")
-        while found < wanted:
-            piece = self.handle.next().decode("utf-8")
+    def text(self, line: str) -> tuple[str, bytearray]:
+        """The head of the reply to a question, and the text of its rows, which may be long."""
+        if is_too_long(line):
+            return "refused LINE", bytearray()
+        reply = Text()
+        self.call(line, reply)
+        first, _, begin = reply.content.partition(b"\n")
+        head, rows = first.decode("utf-8"), bytearray(begin)
+        wanted = rows_after(head) - rows.count(b"\n")
+        while wanted > 0:
+            piece = self.handle.next()
             if not piece:
-                raise ProtocolError(f"rows are missing: {found} of {wanted}")
-            pieces.append(piece)
-            found += piece.count("\n")
-        return "".join(pieces).split("\n")[:-1] if wanted else []
+                raise ProtocolError(f"{wanted} rows are missing: {head[:200]}")
+            wanted -= piece.count(b"\n")
+            rows += piece
+        return head, rows
 
     def words(self, answer: int) -> str:
         """The reply of a refusal."""
@@ -150,7 +151,7 @@ class Lines:
             work.call(line, text)
             return Reply(text.content.decode("utf-8").rstrip("\n"))
         named = self.request, self.done
-        return work.cursors.reply(self.request.session, named, line, work.ask) or work.ask(line)
+        return work.cursors.reply(self.request.session, named, line, work.text) or work.ask(line)
 
     def _append(self, found: re.Match[str], work: Work) -> Reply:
         """A reading waits for others that come at once, so that they share their way to the disk."""
