@@ -115,7 +115,7 @@ class Machine(RuleBasedStateMachine):
             found.append((time, value))
         return found
 
-    @precondition(lambda self: self.BACKEND == "program")
+    @precondition(lambda self: bool(self.BACKEND == "program"))
     @rule(name=NAMES, rows=st.lists(st.tuples(GAPS, VALUES), min_size=1, max_size=3000),
           at=st.integers(0, 3000))
     def append_many_killed(self, name: str, rows: list[tuple[int, int]], at: int) -> None:
@@ -150,7 +150,7 @@ class Machine(RuleBasedStateMachine):
         assert isinstance(last, int)
         return sum(time <= last for time in times)
 
-    @precondition(lambda self: self.BACKEND == "program")
+    @precondition(lambda self: bool(self.BACKEND == "program"))
     @rule()
     def kill(self) -> None:
         """Kills the process while nothing is under way. The next call tells, and then all goes on."""

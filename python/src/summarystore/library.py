@@ -7,6 +7,7 @@ import os
 import threading
 import weakref
 from collections.abc import Callable
+from contextlib import suppress
 from ctypes import byref, c_char_p, c_int, c_int64, c_size_t, c_uint, c_uint64, c_void_p, string_at
 from functools import cache
 from typing import Any
@@ -114,11 +115,13 @@ class Handle:
         self.status, self.text = 0, ""
         self._lock = threading.Lock()
         self._at = c_void_p()
-        known = _descriptors()
+        self._open: list[c_void_p | None] = [None, self._at]
+        # Before it is opened: whatever comes between, it is closed.
+        self._closer = weakref.finalize(self, _let_go, library, self._open, self._lock)
+        known = descriptors_of(path)
         name = os.fsencode(path)
         answer = library.open(name, len(name), flags, byref(self._at))
-        self._closer = weakref.finalize(self, _close, library, self._at.value, self._lock)
-        self._files = _of_file(path, _descriptors() - known)
+        self._files = descriptors_of(path) - known
         _LIVE.add(self)
         if answer:
             self._stop(answer)
@@ -129,23 +132,19 @@ class Handle:
 
     def _stop(self, answer: int) -> None:
         """Keeps why it has stopped."""
-        self.status = answer
         self.text = (self.library.message(self._at) or b"").decode("utf-8", "replace")
-
-    def _told(self, answer: int) -> int:
-        """0, or a refusal. Raises where the store has stopped, and at what can't be meant."""
-        if answer and answer < REFUSED:
-            self._stop(answer)
-            raise StoppedError
-        return answer
+        self.status = answer
 
     def _do(self, call: Callable[..., int], *words: object) -> int:
+        """A call: 0, or a refusal. Raises where the store has stopped, and at what can't be meant."""
         with self._lock:
-            if not self._closer.alive:
-                self.status = self.status or -1
-            if self.status:
+            if self.status or not self._open:
                 raise StoppedError
-            return self._told(call(self._at, *words))
+            answer = call(self._at, *words)
+            if answer and answer < REFUSED:
+                self._stop(answer)
+                raise StoppedError
+            return answer
 
     def call(self, line: bytes, reply: Text) -> None:
         """Does one line. What it changes is on the disk then, and all that waited."""
@@ -171,42 +170,39 @@ class Handle:
 
     def close(self) -> int:
         """Closes it. Gives the status, which is 0 as a rule. Twice does no harm."""
-        return self._closer() or 0
+        with self._lock:
+            return _close(self.library, self._open)
 
     def forget(self) -> None:
         """In a child of this process: it is the parent's, so nothing of it is written or given back."""
-        if self._closer.detach() is not None:
+        self._closer.detach()
+        if self._open:
+            self._open.clear()
             for file in self._files:
                 os.close(file)
 
 
-def _close(library: Library, at: int | None, lock: threading.Lock) -> int:
-    """Closes what a handle had. At the end of the process a thread may still be in a call."""
-    if not lock.acquire(timeout=PATIENCE):
-        return 0
-    try:
-        return int(library.close(at))
-    finally:
-        lock.release()
+def _close(library: Library, opened: list[c_void_p | None]) -> int:
+    """Closes what is open, if it is still. No interrupt comes between the two halves of that, since both
+    are called by one call."""
+    return sum(map(library.close, iter(opened.pop, None))) if opened else 0
 
 
-def _descriptors() -> set[int]:
-    """The files that this process has open, as far as that is told."""
-    try:
-        return set(map(int, os.listdir("/proc/self/fd")))
-    except OSError:
-        return set()
+def _let_go(library: Library, opened: list[c_void_p | None], lock: threading.Lock) -> None:
+    """Closes what nobody holds any more. At the end of the process a thread may still be in a call."""
+    if lock.acquire(timeout=PATIENCE):
+        _close(library, opened)
 
 
-def _of_file(path: str, among: set[int]) -> list[int]:
-    """Those of some open files that are the one at a path."""
-    found = []
-    for file in among:
-        try:
-            if os.path.samestat(os.fstat(file), os.stat(path)):
-                found.append(file)
-        except OSError:
-            pass    # closed by now, or no such file
+def descriptors_of(path: str) -> set[int]:
+    """The descriptors by which this process has a file open, as far as the system tells them."""
+    found = set()
+    with suppress(OSError):
+        file = os.stat(path)
+        for each in map(int, os.listdir("/proc/self/fd")):
+            with suppress(OSError):     # that of the listing is closed by now
+                if os.path.samestat(os.fstat(each), file):
+                    found.add(each)
     return found
 
 

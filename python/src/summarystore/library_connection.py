@@ -52,7 +52,7 @@ class LibraryConnection(Connection):
                 task.go_on(work)
             if work.waits:
                 work.handle.seal()
-                work.settle()
+            work.settle()
         except StoppedError:
             pass    # the handle has it
         except Exception as error:      # what was said is no reply: whoever has the lock gives it up
@@ -78,7 +78,8 @@ class LibraryConnection(Connection):
         try:
             status = self._handle.close()
             self._status, self._text = self._handle.status or status, self._handle.text
-        finally:    # also where the close is interrupted: who waits is told
+        finally:    # also where that is interrupted: it is closed, and who waits is told
+            self._handle.close()
             self._tell_all()
         return self._status
 

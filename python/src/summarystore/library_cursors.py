@@ -57,7 +57,8 @@ class Cursors:
             return Reply("refused NUMBER")
         if cursor is None:
             return Reply("refused NO_CURSOR")
-        rows, end = [], cursor.at
+        rows: list[str] = []
+        end = cursor.at
         while len(rows) < count and end < len(cursor.text):
             begin, end = end, cursor.text.index(b"\n", end) + 1
             rows.append(cursor.text[begin:end - 1].decode("ascii"))
