@@ -12,10 +12,9 @@ import pytest
 from hypothesis import HealthCheck, settings
 
 import summarystore
-from summarystore import backends
+from summarystore import backends, library
 from summarystore.errors import (CommandError, LibraryMissingError, ProgramMissingError,
                                  UnknownStreamError)
-from summarystore.library import find_library
 from summarystore.program import find_program
 from summarystore.store import Store
 
@@ -30,6 +29,9 @@ ROWS = int(os.environ.get("SUMMARYSTORE_TEST_ROWS", "20000"))
 """How many rows the large tests send. The gate takes more."""
 IMPORTED = int(os.environ.get("SUMMARYSTORE_TEST_IMPORT_ROWS", "20000"))
 """How many rows the import has that is killed. The gate takes a million."""
+
+LIBRARY = os.environ.get(library.VARIABLE)
+"""The library that is tested. Without it that is the system's."""
 
 HOME = Path(__file__).resolve().parents[1]
 
@@ -52,8 +54,17 @@ def pytest_generate_tests(metafunc: pytest.Metafunc) -> None:
 
 @pytest.fixture(autouse=True)
 def by_program(monkeypatch: pytest.MonkeyPatch) -> None:
-    """The program is what a test asks that doesn't say anything else, whatever is installed."""
+    """The program is what a test asks that doesn't say anything else, also by other processes."""
     monkeypatch.setattr(backends, "DEFAULT", "program")
+    monkeypatch.delenv(library.VARIABLE, raising=False)
+
+
+def must_have_library() -> library.Library:
+    """The library. A test is left out where it isn't built."""
+    try:
+        return library.find_library(LIBRARY)
+    except LibraryMissingError:
+        pytest.skip("what is asked by the library: it isn't built (make lib)")
 
 
 @pytest.fixture
@@ -62,10 +73,7 @@ def backend(request: pytest.FixtureRequest, by_program: None, program: str,
     """By what the stores of a test are asked. `.ci/python` says which library that is."""
     name = str(request.param)
     if name == "library":
-        try:
-            find_library()
-        except LibraryMissingError:
-            pytest.skip("what is asked by the library: it isn't built (make lib)")
+        monkeypatch.setenv(library.VARIABLE, must_have_library().path)
     monkeypatch.setattr(backends, "DEFAULT", name)
     return name
 

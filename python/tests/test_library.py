@@ -22,20 +22,19 @@ import summarystore
 from summarystore import (backends, errors, library, library_connection, library_cursors, library_tasks,
                           outcome_of)
 from summarystore.store import Store
+from summarystore.wire import COMMAND
 
-from .conftest import HOME
+from .conftest import HOME, must_have_library
 
 KILLS = int(os.environ.get("SUMMARYSTORE_TEST_KILLS", "25"))
+EXAMPLES = HOME.parent / "examples"
 FILES = {module.__file__ for module in (library, library_connection, library_cursors, library_tasks)}
 
 
 @pytest.fixture
 def by_library(path: Path, monkeypatch: pytest.MonkeyPatch) -> Path:
     """The path of a store that isn't there yet, and that the library opens."""
-    try:
-        library.find_library()
-    except errors.LibraryMissingError:
-        pytest.skip("what is asked by the library: it isn't built (make lib)")
+    monkeypatch.setenv(library.VARIABLE, must_have_library().path)
     monkeypatch.setattr(backends, "DEFAULT", "library")
     return path
 
@@ -84,6 +83,34 @@ def test_the_program_where_none_is_installed(path: Path, monkeypatch: pytest.Mon
         assert store.backend == "program"
     with pytest.raises(errors.LibraryMissingError):
         summarystore.open(path, backend="library")
+
+
+# ---- what it answers --------------------------------------------------------------------
+
+
+def said(store: Store, lines: list[str]) -> list[tuple[str, list[str]]]:
+    """The replies to some lines."""
+    return [(reply.head, list(reply.rows)) for reply in store.send(lines).replies]
+
+
+@pytest.mark.parametrize("file", sorted(EXAMPLES.glob("[!s]*.commands")), ids=lambda file: str(file.stem))
+def test_it_answers_as_the_program_does(by_library: Path, file: Path) -> None:
+    lines = [line for line in file.read_text(encoding="utf-8").splitlines()
+             if COMMAND.fullmatch(line) and len(line) <= 250]   # of a session the program takes no longer ones
+    with Store(by_library) as here, Store(f"{by_library}.other", backend="program") as other:
+        for line in lines:
+            assert said(here, [line]) == said(other, [line])
+    assert summarystore.check(by_library) == summarystore.check(f"{by_library}.other")
+
+
+def test_cursors_answer_as_those_of_the_program(by_library: Path) -> None:
+    lines = ["cursor open a", "create a exp 2 4 1", *(f"append a {time} 7" for time in range(9)),
+             "cursor next 1", "cursor open", "cursor open a b", "cursor open é", "cursor open a",
+             "cursor open a", "append a 9 7", "cursor next 2", "cursor next 0", "cursor next 1001",
+             "cursor next x", " cursor  \tnext 1 ", "cursor next", "cursor next 99", "cursor next 1", "cursor close",
+             "cursor close", "cursor", f"cursor open {'a' * 33}"]
+    with Store(by_library) as here, Store(f"{by_library}.other", backend="program") as other:
+        assert said(here, lines) == said(other, lines)
 
 
 # ---- one at a time ----------------------------------------------------------------------
@@ -218,6 +245,7 @@ def test_lines_that_are_interrupted_at_each_step(by_library: Path, lines: list[s
 APPENDER = """
 import sys
 from summarystore.store import Store
+from summarystore.wire import COMMAND
 store, size = Store(sys.argv[1], backend="library", existing=True), int(sys.argv[2])
 time = (store.last_count("a") or 0) + 1
 while True:

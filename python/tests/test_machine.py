@@ -19,8 +19,9 @@ from hypothesis.stateful import RuleBasedStateMachine, invariant, precondition, 
 from summarystore import Presence, errors
 from summarystore.backends import Name
 from summarystore.kinds import Kind
-from summarystore.library import find_library
 from summarystore.store import Store
+
+from .conftest import must_have_library
 
 RUNS = int(os.environ.get("SUMMARYSTORE_TEST_RUNS", "20"))
 STEPS = int(os.environ.get("SUMMARYSTORE_TEST_STEPS", "100"))
@@ -53,13 +54,14 @@ class Machine(RuleBasedStateMachine):
     """Calls, each with its answer by the model. A call that was cut off may have been done or not."""
 
     BACKEND: Name = "program"
+    library: str | None = None
 
     def __init__(self) -> None:
         super().__init__()
         memory = "/dev/shm" if os.access("/dev/shm", os.W_OK) else None
         self.folder = tempfile.mkdtemp(prefix="summarystore-", dir=memory)
         self.path = Path(self.folder) / "any.store"
-        self.store = Store(self.path, backend=self.BACKEND)
+        self.store = Store(self.path, backend=self.BACKEND, library=self.library)
         self.streams: dict[str, Stream] = {}
 
     def teardown(self) -> None:
@@ -166,7 +168,7 @@ class Machine(RuleBasedStateMachine):
     def reopen(self) -> None:
         """Closes the store, and opens it again."""
         self.store.close()
-        self.store = Store(self.path, backend=self.BACKEND)
+        self.store = Store(self.path, backend=self.BACKEND, library=self.library)
 
     @rule(name=NAMES, gap=st.integers(-2, 5))
     def open_landmark(self, name: str, gap: int) -> None:
@@ -287,10 +289,7 @@ class LibraryMachine(Machine):
     BACKEND: Name = "library"
 
     def __init__(self) -> None:
-        try:
-            find_library()
-        except errors.LibraryMissingError:
-            pytest.skip("the machine over the library: it isn't built (make lib)")
+        self.library = must_have_library().path
         super().__init__()
 
 

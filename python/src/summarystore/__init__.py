@@ -11,14 +11,15 @@ from .connecting import RemoteStore, connect
 from .description import EPOCH, Description
 from .errors import (CertificateError, CommandError, CursorBusyError, DamagedStoreError, DescriptionError,
                      DiskFullError, InputFaultError, InputTooLongError, KilledError, KindError,
-                     LandmarkNotOpenError, LandmarkOpenError, LateError, LineTooLongError, LockedError,
-                     MeterError, NamesFileError, NoCursorError, NoStoreError, NotANumberError, NoValueError,
-                     NumberError, Outcome, OutOfMemoryError, OutputFaultError, ProcessEndedError,
-                     ProgramMissingError, ProtocolError, RangeError, RecordChangedError, RefusedError,
-                     ReopenedWarning, RoundedTimeWarning, RowsRefusedError, ScaleError, ServiceError,
-                     SourceError, StepWarning, StoreClosedError, StoreFileError, StoreFullError,
-                     StreamExistsError, StreamFullError, StreamNameError, SummaryStoreError, TargetError,
-                     TimeError, TooManyStreamsError, UnexpectedEndError, UnknownStreamError, UsageError)
+                     LandmarkNotOpenError, LandmarkOpenError, LateError, LibraryMissingError,
+                     LineTooLongError, LockedError, MeterError, NamesFileError, NoCursorError, NoStoreError,
+                     NotANumberError, NoValueError, NumberError, Outcome, OutOfMemoryError, OutputFaultError,
+                     ProcessEndedError, ProgramMissingError, ProtocolError, RangeError, RecordChangedError,
+                     RefusedError, ReopenedWarning, RoundedTimeWarning, RowsRefusedError, ScaleError,
+                     ServiceError, SourceError, StepWarning, StoreClosedError, StoreFileError,
+                     StoreFullError, StreamExistsError, StreamFullError, StreamNameError, SummaryStoreError,
+                     TargetError, TimeError, TooManyStreamsError, UnexpectedEndError, UnknownStreamError,
+                     UsageError)
 from .interval import Interval, Presence, mean_of
 from .names import Names
 from .outcome import outcome_of
@@ -62,13 +63,13 @@ __all__ = [
     "Certificate", "CertificateError", "CommandError", "CursorBusyError", "DamagedStoreError", "Description",
     "DescriptionError", "DiskFullError", "Estimate", "EstimateRow", "InputFaultError", "InputTooLongError",
     "Interval", "KilledError", "KindError", "LandmarkNotOpenError", "LandmarkOpenError", "Last", "LateError",
-    "LineTooLongError", "LockedError", "MeterError", "NamesFileError", "NoCursorError", "NoStoreError",
-    "NotANumberError", "NoValueError", "NumberError", "Outcome", "OutOfMemoryError", "OutputFaultError",
-    "Presence", "ProcessEndedError", "ProgramMissingError", "ProtocolError", "RangeError", "Reading",
-    "RecordChangedError", "RefusedError", "RemoteStore", "ReopenedWarning", "RoundedTimeWarning", "Row",
-    "RowsRefusedError", "ScaleError", "Series", "ServiceError", "Soundness", "SourceError", "StepWarning",
-    "Store", "StoreClosedError", "Stored", "StoreFileError", "StoreFullError", "Stream", "StreamExistsError",
-    "StreamFullError", "StreamNameError", "SummaryStoreError", "TargetError", "TimeError",
-    "TooManyStreamsError", "UnexpectedEndError", "UnknownStreamError", "UsageError", "Window", "check",
-    "connect", "mean_of", "now", "open", "outcome_of",
+    "LibraryMissingError", "LineTooLongError", "LockedError", "MeterError", "NamesFileError",
+    "NoCursorError", "NoStoreError", "NotANumberError", "NoValueError", "NumberError", "Outcome",
+    "OutOfMemoryError", "OutputFaultError", "Presence", "ProcessEndedError", "ProgramMissingError",
+    "ProtocolError", "RangeError", "Reading", "RecordChangedError", "RefusedError", "RemoteStore",
+    "ReopenedWarning", "RoundedTimeWarning", "Row", "RowsRefusedError", "ScaleError", "Series",
+    "ServiceError", "Soundness", "SourceError", "StepWarning", "Store", "StoreClosedError", "Stored",
+    "StoreFileError", "StoreFullError", "Stream", "StreamExistsError", "StreamFullError", "StreamNameError",
+    "SummaryStoreError", "TargetError", "TimeError", "TooManyStreamsError", "UnexpectedEndError",
+    "UnknownStreamError", "UsageError", "Window", "check", "connect", "mean_of", "now", "open", "outcome_of",
 ]

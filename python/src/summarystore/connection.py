@@ -70,6 +70,11 @@ class Connection:
         """How many bytes it has taken, of those that one of its kind takes."""
         return 0
 
+    @property
+    def is_due(self) -> bool:
+        """Whether what is queued waits for somebody who waits for it, and for too long by now."""
+        return False
+
     def add(self, request: Request) -> None:
         """Queues a request."""
         raise NotImplementedError

@@ -2,12 +2,17 @@
 
 from __future__ import annotations
 
+import time
+
 from . import library as libraries
 from .connection import Connection
 from .library import Handle, Library, StoppedError
 from .library_tasks import Task, Work, task_of
 from .pipeline import Request
 from .program import is_unmade
+
+SOON = 0.02
+"""Rows that come slowly are stored after so many seconds, and don't wait for others."""
 
 
 class LibraryConnection(Connection):
@@ -20,6 +25,7 @@ class LibraryConnection(Connection):
                  | (libraries.CHECKED if wanted else 0))
         self._work = Work(Handle(library, path, flags))
         self._broken: Exception | None = None
+        self._polled = time.monotonic()
 
     @property
     def _handle(self) -> Handle:
@@ -28,6 +34,10 @@ class LibraryConnection(Connection):
     @property
     def idle(self) -> bool:
         return not self._work.tasks
+
+    @property
+    def is_due(self) -> bool:
+        return time.monotonic() > self._polled + SOON
 
     def add(self, request: Request) -> None:
         self._work.tasks.append(task_of(request))
@@ -47,6 +57,7 @@ class LibraryConnection(Connection):
         work = self._work
         if work.handle.status:
             return      # it couldn't be opened
+        self._polled = time.monotonic()
         try:
             for task in list(work.tasks):
                 task.go_on(work)

@@ -8,9 +8,7 @@ from typing import NamedTuple
 
 from .wire import MOST_ROWS, Reply
 
-OPEN = re.compile(r"cursor open ([!-~]+)")
-NEXT = re.compile(r"cursor next ([0-9]+)")
-CLOSE = "cursor close"
+COUNT = re.compile(r"0*([1-9][0-9]{0,3})")
 
 
 class Cursor(NamedTuple):
@@ -34,15 +32,17 @@ class Cursors:
         cursor = self._open.get(session)
         if cursor is not None and cursor.line == named:
             return cursor.reply
-        opened, further = OPEN.fullmatch(line), NEXT.fullmatch(line)
-        if opened is not None:
-            if cursor is not None:
+        match re.findall("[^ \t]+", line):
+            case ["cursor", "open", _] if cursor is not None:
                 return Reply("refused BUSY")
-            return self._opened(session, named, *ask(f"windows {opened[1]}"))
-        if further is not None:
-            return self._next(session, named, int(further[1]), cursor)
-        if line == CLOSE:
-            return Reply("refused NO_CURSOR" if self._open.pop(session, None) is None else "closed")
+            case ["cursor", "open", name]:
+                return self._opened(session, named, *ask(f"windows {name}"))
+            case ["cursor", "next", count]:
+                return self._next(session, named, count, cursor)
+            case ["cursor", "close"]:
+                return Reply("refused NO_CURSOR" if self._open.pop(session, None) is None else "closed")
+            case ["cursor", *_]:
+                return Reply("refused SYNTAX")
         return None
 
     def _opened(self, session: int, named: Hashable, head: str, text: bytearray) -> Reply:
@@ -52,7 +52,9 @@ class Cursors:
         self._open[session] = Cursor(named, reply, text, 0)
         return reply
 
-    def _next(self, session: int, named: Hashable, count: int, cursor: Cursor | None) -> Reply:
+    def _next(self, session: int, named: Hashable, word: str, cursor: Cursor | None) -> Reply:
+        found = COUNT.fullmatch(word)
+        count = int(found[1]) if found is not None else 0
         if not 1 <= count <= MOST_ROWS:
             return Reply("refused NUMBER")
         if cursor is None:

@@ -29,7 +29,7 @@ from .outcome import tell
 from .present import UNSAID, next_free, reading_of
 from .questions import Questions
 from .records import Soundness, Stored
-from .sending import OnRefused, Sending
+from .sending import OPEN, OnRefused, Sending
 
 if TYPE_CHECKING:
     from .reordered import Reordered
@@ -234,8 +234,8 @@ class Store(Channel, Questions):
         self._close_let_go()
         with self._session() as session, self._telling(sending):
             for request in sending.requests(session):
-                sending.connection = self._submit(request, sending.connection)
-                for oldest in sending.due():
+                connection = sending.connection = self._submit(request, sending.connection)
+                for oldest in sending.due(0 if connection.is_due else OPEN - 1):
                     self._wait(oldest)
         if sending.stopped:
             self.send_rest(sending)
