@@ -13,7 +13,7 @@ from pathlib import Path
 import pytest
 
 import summarystore
-from summarystore import errors
+from summarystore import errors, storefile
 from summarystore.store import Store
 
 Fake = Callable[[str], str]
@@ -164,6 +164,27 @@ def test_a_cursor_ends_with_its_process(path: Path) -> None:
         list(windows)
     with pytest.warns(errors.ReopenedWarning):
         assert len(list(store.windows("a"))) == 1500
+    store.close()
+
+
+@pytest.mark.filterwarnings("ignore::summarystore.errors.ReopenedWarning")
+def test_something_else_changes_the_file(path: Path, backend: str) -> None:
+    """Nothing is answered of it any more, and what became of rows is told."""
+    store = Store(path)
+    store.create("a", "exp 2 4096 1")
+    store.append_many("a", [(moment, 1) for moment in range(1, 5001)])
+    with open(path, "r+b") as file:
+        file.seek(storefile.FIRST_SLOT)
+        file.write(b"\7" * (path.stat().st_size - storefile.FIRST_SLOT))
+    with pytest.raises(errors.RecordChangedError) as changed:
+        store.query("a", "sum", 1, 3000)
+    assert changed.value.status == 9 and list(changed.value.unknown) == ["query a sum 1 3000"]
+    for _ in range(2):
+        with pytest.raises(errors.DamagedStoreError, match="damaged slot 0"):
+            store.query("a", "sum")
+    with pytest.raises(errors.DamagedStoreError) as ended:
+        store.append_many("a", [(6000, 1), (6001, 1)])
+    assert ended.value.acknowledged == 0 and list(ended.value.not_stored) == [(6000, 1), (6001, 1)]
     store.close()
 
 

@@ -11,6 +11,7 @@ import subprocess
 import sys
 import time
 import types
+import warnings
 from collections.abc import Iterator
 from contextlib import contextmanager
 from pathlib import Path
@@ -96,7 +97,7 @@ def said(store: Store, lines: list[str]) -> list[tuple[str, list[str]]]:
 @pytest.mark.parametrize("file", sorted(EXAMPLES.glob("[!s]*.commands")), ids=lambda file: str(file.stem))
 def test_it_answers_as_the_program_does(by_library: Path, file: Path) -> None:
     lines = [line for line in file.read_text(encoding="utf-8").splitlines()
-             if COMMAND.fullmatch(line) and len(line) <= 250]   # of a session the program takes no longer ones
+             if COMMAND.fullmatch(line) and len(line) <= 250]   # in a session no longer ones are taken
     with Store(by_library) as here, Store(f"{by_library}.other", backend="program") as other:
         for line in lines:
             assert said(here, [line]) == said(other, [line])
@@ -107,10 +108,36 @@ def test_cursors_answer_as_those_of_the_program(by_library: Path) -> None:
     lines = ["cursor open a", "create a exp 2 4 1", *(f"append a {time} 7" for time in range(9)),
              "cursor next 1", "cursor open", "cursor open a b", "cursor open é", "cursor open a",
              "cursor open a", "append a 9 7", "cursor next 2", "cursor next 0", "cursor next 1001",
-             "cursor next x", " cursor  \tnext 1 ", "cursor next", "cursor next 99", "cursor next 1", "cursor close",
-             "cursor close", "cursor", f"cursor open {'a' * 33}"]
+             "cursor next x", " cursor  \tnext 1 ", "cursor next", "cursor next 99", "cursor next 1",
+             "cursor close", "cursor close", "cursor", f"cursor open {'a' * 33}"]
     with Store(by_library) as here, Store(f"{by_library}.other", backend="program") as other:
         assert said(here, lines) == said(other, lines)
+
+
+def test_a_check_without_the_program(by_library: Path, monkeypatch: pytest.MonkeyPatch) -> None:
+    with Store(by_library) as store, warnings.catch_warnings():
+        warnings.simplefilter("error")
+        with monkeypatch.context() as patch:
+            patch.setenv("SUMMARYSTORE", "/nowhere/summarystore")
+            with pytest.raises(errors.ProgramMissingError):
+                store.check()
+        store.create("a", "exp 2 1 1")
+        assert store.check().streams == 1
+
+
+def test_rows_that_come_slowly_are_stored_meanwhile(by_library: Path) -> None:
+    with Store(by_library) as store:
+        store.create("a", "exp 2 60 1")
+        images: list[bytes] = []
+
+        def rows() -> Iterator[tuple[int, int]]:
+            for moment in range(5000):
+                if moment % 1000 == 500:
+                    time.sleep(0.05)
+                    images.append(by_library.read_bytes())
+                yield moment, 7
+        assert store.append_many("a", rows()) == 5000
+    assert len(set(images)) == 5
 
 
 # ---- one at a time ----------------------------------------------------------------------

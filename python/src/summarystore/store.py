@@ -1,4 +1,4 @@
-"""A store behind its process, for threads: calls wait for their replies."""
+"""A store for threads: calls wait for their replies."""
 
 from __future__ import annotations
 
@@ -27,6 +27,7 @@ from .late import MOST_HELD
 from .meters import counting, must_not_count
 from .outcome import tell
 from .present import UNSAID, next_free, reading_of
+from .program import find_program
 from .questions import Questions
 from .records import Soundness, Stored
 from .sending import OPEN, OnRefused, Sending
@@ -323,7 +324,8 @@ class Store(Channel, Questions):
         return Windows(self, self._translator.codec(name))
 
     def check(self) -> Soundness:
-        """Looks the store over. The process is ended for that, and started again."""
+        """Looks the store over, by the program. It is closed for that, and opened again."""
+        find_program(self._program)     # before it is closed
         with self._changed:
             self._close_let_go()
             while not self._sessions.idle:
