@@ -1,4 +1,4 @@
-"""The process of a store, shared by threads: who waits moves the bytes for all who wait."""
+"""The connection of a store, shared by threads: who waits moves the bytes for all who wait."""
 
 from __future__ import annotations
 
@@ -11,6 +11,7 @@ from contextlib import contextmanager, suppress
 from typing import TypeVar
 
 from . import calls, older
+from .backends import File, Name, backend_of
 from .base import Base
 from .calls import Call
 from .codec import Codec, Translator
@@ -25,14 +26,15 @@ T = TypeVar("T")
 LOOK_AGAIN = 0.1
 
 
-class Channel(Base):
-    """A store's process, its sessions, and its cursors."""
+class Channel(Base[Connection]):
+    """A store's connection, its sessions, and its cursors."""
 
-    def __init__(self, path: StorePath, *, program: str | os.PathLike[str] | None = None,
+    def __init__(self, path: StorePath, *, program: File | None = None,
                  translator: Translator | None = None, existing: bool = False,
-                 checked: bool | None = None, renew_at: int = RENEW_AT) -> None:
-        super().__init__(path, program=program, translator=translator, existing=existing, checked=checked,
-                         renew_at=renew_at)
+                 checked: bool | None = None, renew_at: int = RENEW_AT,
+                 backend: Name | None = None, library: File | None = None) -> None:
+        super().__init__(path, backend_of(backend, program, library), program, translator, existing, checked,
+                         renew_at)
         self._changed = threading.Condition()
         self._mine = threading.local()
         self._let_go: deque[tuple[int, Connection]] = deque()
@@ -46,11 +48,11 @@ class Channel(Base):
         return super()._start()
 
     def _up(self) -> Connection:
-        """The process that is up. One that has ended is started again, once, and that is said."""
+        """The connection that is up. One that has ended is made again, once, and that is said."""
         self._must_be_mine()
         if self._connection is None:
             self._connection = self._start()
-            warnings.warn(ReopenedWarning(f"{self.path}: the program had ended; opened again"),
+            warnings.warn(ReopenedWarning(f"{self.path}: {self._backend.ended}; opened again"),
                           stacklevel=6)
         return self._connection
 
@@ -68,14 +70,14 @@ class Channel(Base):
         """Lets another process take the place of one that has taken much. What is under way is answered
         before, and whoever wants to send more meanwhile waits here."""
         while (old := self._outlived()) is not None:
-            if old.pipeline.idle:
+            if old.idle:
                 self._put_down(old)
                 self._connection = old.successor = self._start()
             else:
                 self._pump()
 
     def _put_down(self, connection: Connection) -> None:
-        """Lets a process end in order."""
+        """Ends a connection in order."""
         self._connection = None
         connection.close()
 
@@ -139,7 +141,7 @@ class Channel(Base):
             self._changed.notify_all()
 
     def _step(self) -> None:
-        """Writes and reads what can be, after waiting for that. The lock is free meanwhile."""
+        """Does what can be done, after waiting for that. The lock is free meanwhile."""
         connection = self._connection
         assert connection is not None
         self._changed.release()
@@ -160,7 +162,7 @@ class Channel(Base):
             connection.end()
 
     def _abandon(self, connection: Connection) -> None:
-        """Gives a process up: what it has been told, or what it says, isn't known any more."""
+        """Gives a connection up: what it has been told, or what it says, isn't known any more."""
         self._connection = None
         connection.abandon()
 
@@ -192,13 +194,13 @@ class Channel(Base):
         return call.answer(request.replies)
 
     def close(self) -> None:
-        """Lets the program end in order, after all that is under way. Twice does no harm."""
+        """Ends the connection in order, after all that is under way. Twice does no harm."""
         if self._owner != os.getpid():
             return
         with self._changed:
             if self._closed:
                 return
-            while self._connection is not None and not self._connection.pipeline.idle:
+            while self._connection is not None and not self._connection.idle:
                 self._pump()
             self._closed = True
             if self._connection is not None:
