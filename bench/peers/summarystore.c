@@ -3,8 +3,9 @@
 #include <stdio.h>
 #include <string.h>
 
+#include <summarystore.h>
+
 #include "peer.h"
-#include "summarystore.h"
 
 const int peer_holds_truth = 1;
 
@@ -15,8 +16,10 @@ static summarystore *store;
 
 static void must(int status, const char *call)
 {
-    if (status != 0)
-        fail(call, store ? summarystore_message(store) : "no store");
+    if (status >= SUMMARYSTORE_REFUSED)
+        fail(call, summarystore_refusal(status));
+    if (status != SUMMARYSTORE_DONE)
+        fail(call, store ? summarystore_message(store) : "no connection");
 }
 
 void peer_open(const char *folder, const char *form)
@@ -24,26 +27,28 @@ void peer_open(const char *folder, const char *form)
     const char *path = path_in(folder, "bench.store");
     char line[128];
     summarystore_text reply;
+    int length = snprintf(line, sizeof line, "create %s %s", NAME, form);
     must(summarystore_open(path, strlen(path), 0, &store), "summarystore_open");
-    snprintf(line, sizeof line, "create %s %s", NAME, form);
-    must(summarystore_call(store, line, strlen(line), &reply), "summarystore_call");
+    must(summarystore_call(store, line, (size_t)length, &reply), "summarystore_call");
+    if (strncmp(reply.bytes, "ok ", 3) != 0)
+        fail(line, reply.bytes);
 }
 
 void peer_append(const uint64_t *times, const int64_t *values, size_t count)
 {
-    summarystore_ack ack;
     size_t taken;
     if (count == 1)
-        must(summarystore_append(store, NAME, LENGTH, times[0], values[0], &ack), "summarystore_append");
+        must(summarystore_append(store, NAME, LENGTH, times[0], values[0], NULL), "summarystore_append");
     else
-        must(summarystore_append_many(store, NAME, LENGTH, times, values, count, &taken, &ack), "summarystore_append_many");
+        must(summarystore_append_many(store, NAME, LENGTH, times, values, count, &taken, NULL), "summarystore_append_many");
 }
 
+/* Sums here have 64 bits. */
 struct sum peer_sum(uint64_t from, uint64_t to)
 {
-    summarystore_interval interval;
-    must(summarystore_query(store, NAME, LENGTH, SUMMARYSTORE_SUM, from, to, &interval), "summarystore_query");
-    struct sum told = {interval.lo, interval.hi};
+    summarystore_interval answer;
+    must(summarystore_query(store, NAME, LENGTH, SUMMARYSTORE_SUM, from, to, &answer), "summarystore_query");
+    struct sum told = {(int64_t)answer.lo.low, (int64_t)answer.hi.low};
     return told;
 }
 
