@@ -9,7 +9,8 @@
  * - A connection is one that `summarystore_open` gave and `summarystore_close` hasn't taken. One thread uses it at a time, and who hands it
  *   to another orders that by a lock or a join. Two connections may be used at the same time.
  * - A pointer with a length is readable so far, a pointer to an answer has room for one, and arrays have as many entries as is said.
- * - No call is made from a signal handler. A child of `fork` uses and closes no connection of its parent.
+ * - No call is made from a signal handler. A child of `fork` uses and closes no connection of its parent; it keeps the file locked until it
+ *   ends or runs another program.
  * What can be seen, as a null pointer, is answered by SUMMARYSTORE_MISUSE, and nothing is done. Where an answer is wanted no null is taken.
  * An answer is set where the status is 0, and else where it is said. */
 #ifndef SUMMARYSTORE_H
@@ -30,7 +31,7 @@ enum {
     SUMMARYSTORE_DONE = 0,
     SUMMARYSTORE_REFUSED_STORE = 3,  /* the file is no store, or a damaged one; it was left as it was */
     SUMMARYSTORE_DISK_FAULT = 4,     /* the file couldn't be opened, locked, read, written or synced */
-    SUMMARYSTORE_BUSY = 5,           /* another connection, or another process, has the file; of `open` alone */
+    SUMMARYSTORE_BUSY = 5,           /* another connection, or another process, has the file: from `open`, and then from each call */
     SUMMARYSTORE_OUT_OF_MEMORY = 7,
     SUMMARYSTORE_RECORD_CHANGED = 9, /* something else changed the file meanwhile */
     SUMMARYSTORE_MISUSE = 64,        /* a call that can't be meant; the connection goes on */
@@ -60,8 +61,7 @@ enum {
     SUMMARYSTORE_EXISTING = 1, /* makes no store: where there is none the answer is SUMMARYSTORE_DISK_FAULT */
     SUMMARYSTORE_CHECKED = 2,  /* makes a store with checksums where there is none; where a plain one stands, SUMMARYSTORE_DISK_FAULT */
     SUMMARYSTORE_BATCH = 4,    /* typed events wait until they are sealed */
-    SUMMARYSTORE_LOOK = 8      /* writes nothing, and shares the file with others that only look. Where a connection before left work in the
-                                  journal, as each does that stored something, SUMMARYSTORE_DISK_FAULT: open and close it once without LOOK */
+    SUMMARYSTORE_LOOK = 8      /* writes nothing, and shares the file with others that only look */
 };
 
 /* What a query asks for. */
@@ -88,14 +88,14 @@ typedef struct summarystore_ack {
     uint64_t windows; /* how many windows stand */
 } summarystore_ack;
 
-/* How the windows of a stream get longer: of EXP the numbers B, R and S and a 0, of POWER P, Q, R and S. */
+/* How the windows of a stream get longer: of EXP the numbers B, R and S, and a fourth that isn't looked at, of POWER P, Q, R and S. */
 typedef struct summarystore_target {
     uint32_t family;
     uint32_t numbers[4];
     uint32_t within; /* no window crosses a multiple of it; 0 where there is no such bound */
 } summarystore_target;
 
-/* The number (high * 2^64 + low) / under. `under` is 1 but for a mean, which is in lowest terms. */
+/* The number (high * 2^64 + low) / under. `under` is 1 but for a mean, which is in lowest terms, and never 0. */
 typedef struct summarystore_number {
     int64_t high;
     uint64_t low;
@@ -104,10 +104,10 @@ typedef struct summarystore_number {
 
 /* What is answered: the truth is at least `lo` and at most `hi`, where there is a value in the range. */
 typedef struct summarystore_interval {
-    int32_t none;       /* 1: there is surely no value, so no least one, no greatest one and no mean, and the numbers are 0; else 0 */
+    int32_t none;       /* 1: there is surely no value, so no least one, no greatest one and no mean, and the numbers are 0 / 1; else 0 */
     int32_t maybe_none; /* 1: there may be no value; else 0. Of a count or a sum both are 0. */
     summarystore_number lo, hi;
-    summarystore_number guess; /* the likeliest, of `summarystore_estimate` alone; else 0 */
+    summarystore_number guess; /* the likeliest, of `summarystore_estimate` alone; else 0 / 1 */
 } summarystore_interval;
 
 /* How far a stream has come. */
@@ -122,17 +122,19 @@ typedef struct summarystore_newest {
 /* Opens the store at a path, which has so many bytes, and makes it where there is none and the flags allow it. The file is locked until the
  * connection is closed, and a store that was made is durable when the call returns.
  * Where the answer isn't 0, *connection has stopped, and tells why by `summarystore_message`; it is to be closed as any, and has no file. It
- * is null where there was no memory for one, and at a misuse: an unknown flag, or a path that isn't UTF-8 or has a 0 in it. */
+ * is null where there was no memory for one, and at a misuse: an unknown flag, LOOK with another than EXISTING, or a path that isn't UTF-8, has
+ * a 0 in it or more than 4,096 bytes. */
 int summarystore_open(const char *path, size_t length, unsigned flags, summarystore **connection);
 
-/* Makes durable what waits, gives the lock back, and frees the connection, whatever the answer is. The answer is that of
+/* Makes durable what waits, unless the connection has stopped, gives the lock back, and frees the connection, whatever the answer is. The answer is that of
  * `summarystore_seal`, and 0 for a null pointer. */
 int summarystore_close(summarystore *connection);
 
 /* Why the connection has stopped, or 0 where it goes on. */
 int summarystore_status(const summarystore *connection);
 
-/* The same in the program's words, with the system's in brackets, and '' where it goes on. The text stays until the next call. */
+/* The same in the program's words, with the system's in brackets. It is '' where the connection goes on, or where there was no memory for the
+ * words. The text stays until the next call. */
 const char *summarystore_message(const summarystore *connection);
 
 /* Does one line of the program's grammar, which may end in a line end but has none inside. The reply is the text that the program prints: a
@@ -140,12 +142,12 @@ const char *summarystore_message(const summarystore *connection);
  * first lines, and `summarystore_next` has the rest. What the line changes, and what waited, is durable when the call returns. */
 int summarystore_call(summarystore *connection, const char *line, size_t length, summarystore_text *reply);
 
-/* Further rows of the last call's reply, whole lines; a length of 0 says that there are no more. Any other call but `status` and `message`
- * ends them. */
+/* Further rows of the last call's reply, whole lines; a length of 0 says that there are no more. Any other call that isn't a misuse ends
+ * them, but for `status` and `message`. */
 int summarystore_next(summarystore *connection, summarystore_text *rows);
 
-/* Typed events. Each is durable when it returns, but in a batch when it is sealed. The `ack` may be null. The reasons for which one is refused
- * are tested in the order in which they are told. */
+/* Typed events. Each is durable when it returns, but in a batch when it is sealed: until then a crash or a stop leaves some first ones of those
+ * that wait. The `ack` may be null. The reasons for which one is refused are tested in the order in which they are told. */
 
 /* Makes a stream. Refused by NAME, PARAM, EXISTS, STREAMS or STORE_FULL. */
 int summarystore_create(summarystore *connection, const char *name, size_t length, const summarystore_target *target, summarystore_ack *ack);
@@ -154,8 +156,8 @@ int summarystore_create(summarystore *connection, const char *name, size_t lengt
 int summarystore_append(summarystore *connection, const char *name, size_t length, uint64_t time, int64_t value, summarystore_ack *ack);
 
 /* Takes so many values, each at its time, until one is refused; the answer is then that of the refused one. *taken says how many were taken
- * before, which are durable together when the call returns, and `ack` is that of the last of them, set where there is one. Where the answer is
- * a stop, *taken is 0, and some first ones may be on the disk. */
+ * before, which are durable when the call returns, but in a batch, and `ack` is that of the last of them, set where there is one. Where the
+ * answer is a stop, *taken is 0, and some first ones may be on the disk. */
 int summarystore_append_many(summarystore *connection, const char *name, size_t length, const uint64_t *times, const int64_t *values,
                              size_t count, size_t *taken, summarystore_ack *ack);
 
