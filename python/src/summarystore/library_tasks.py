@@ -17,7 +17,7 @@ from .errors import ProtocolError
 from .library import Ack, Handle, Text
 from .library_cursors import Cursors
 from .pipeline import EVENTS, Appends, Commands, Request
-from .wire import LONGEST_LINE, NAME, Readings, Reply, rows_after
+from .wire import LONGEST_LINE, LONGEST_SENT, NAME, Readings, Reply, rows_after
 
 APPEND = re.compile(r"append ([a-zA-Z0-9_.-]{1,32}) ([0-9]{1,19}) (-?[0-9]{1,19})")
 UNFILLED = 2**64 - 1
@@ -209,7 +209,8 @@ class RowsByLines:
 
     def __init__(self, request: Appends[Any]) -> None:
         self.request = request
-        self._commands = Commands(0, [request.readings.line(at) for at in range(request.count)])
+        lines = [request.readings.line(at)[:LONGEST_SENT] for at in range(request.count)]
+        self._commands = Commands(0, lines)
         self._lines = Lines(self._commands)
 
     @property
