@@ -1,10 +1,10 @@
 -- What a certificate brings, and that the evidence that is made for it is right.
-use Rattle.ss_program.proofs.Common.{◌≡◌, ℕ, ◌<◌, true, false, ◌↔◌, List, [], ◌∷◌, length, Ok, Option, Some, None, IsTrue, refl, ap, ◌∙◌, arith}
+use Rattle.ss_program.proofs.Common.{◌≡◌, ℕ, ◌<◌, true, false, ◌↔◌, List, ◌∷◌, length, Ok, Option, Some, None, IsTrue, refl, ap, ◌∙◌, arith}
 use Rattle.ss_program.proofs.Common.{inl, inr, cases_Bool, length-append, flat_map, is_some, option_map, is_certified, End, Query, Refusal, All-named}
-use Rattle.ss_program.proofs.Common.{HasCuts-seen_of, ChecksEvidence, evidence_in, IsEvidence, evidence_of, head_of, side_of, told, Evidence, Certify, stands}
+use Rattle.ss_program.proofs.Common.{HasCuts-seen_of, ChecksEvidence, evidence_in, IsEvidence, evidence_of, told, Evidence, Certify, stands}
 use Rattle.ss_program.proofs.Common.{Stream, state, stream_named, shown-sealed, IsSealed, DiskView, OfContent, Told, seen_of, RecordsState, shown_by, said_line}
 use Rattle.ss_program.proofs.Common.{Reply, StoreState, Recovers, Recovers-StoreIsIn, IsOpen, HasEvidence, History, certified, command_brings, refused}
-use Rattle.ss_program.proofs.Common.{only_replies, text_said, unless_refused}
+use Rattle.ss_program.proofs.Common.{only_replies, unless_refused}
 use Rattle.ss_certify.proofs.MadeLemmas.{IsEvidence-evidence_of}
 use Rattle.ss_model.specs.Answers.{refuses_query}
 use Rattle.ss_model.specs.Standing.{IsState, IsStream}
@@ -80,15 +80,6 @@ brings-certified history query end w none is =
     ap (λ r. unless_refused r (only_replies (certified (evidence_in (state history) query end)))) none ∙ ap (λ o. only_replies (certified o)) is
 
 module _ (speaker : Option ℕ) where
-  -- so it brings a reply
-  head-some : (head : Reply) (rows : List Reply) → 0 < length (flat_map (said_line speaker) (head ∷ rows))
+  -- a reply with rows behind it isn't empty
+  pub head-some : (head : Reply) (rows : List Reply) → 0 < length (flat_map (said_line speaker) (head ∷ rows))
   head-some head rows = omega (arith, said_line-some speaker head, length-append (said_line speaker head) (flat_map (said_line speaker) rows))
-
-  pub certified-some : (history : History) (query : Query) (end : End) → refuses_query (state history) query ≡ None →
-      0 < length (text_said speaker (command_brings history (Certify query end)))
-  certified-some history query end none =
-      let known = evidence-known (state history) query end none in
-      rw (brings-certified history query end known.0 none known.1)
-      (head-some (head_of known.0) (flat_map (λ c. side_of c true ∷ side_of c false ∷ []) known.0.certs.items))
-
--- ---- its lines

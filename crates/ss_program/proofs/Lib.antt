@@ -1,7 +1,7 @@
 pub mod Common
 pub mod StepLemmas
 pub mod SendLemmas
-pub mod SessionLemmas
+pub mod ReportLemmas
 pub mod StepsLemmas
 pub mod SpelledLemmas
 pub mod WrittenLemmas
@@ -11,6 +11,10 @@ pub mod AnswerLemmas
 pub mod MeantLemmas
 pub mod TakesLemmas
 pub mod RowLemmas
+pub mod LeftRowLemmas
+pub mod LeftRows
+pub mod RowsLemmas
+pub mod ShowLemmas
 pub mod NewestLemmas
 pub mod ValuesLemmas
 pub mod SeriesLemmas
@@ -23,7 +27,7 @@ pub mod RunLemmas
 pub mod OpeningLemmas
 pub mod EndLemmas
 pub mod GenerateLemmas
-pub mod Rows
+pub mod BroughtRows
 pub mod SaidRows
 pub mod NewestRows
 pub mod FieldRows
@@ -44,5 +48,5 @@ pub mod SeriesRows
 pub mod CertifyRows
 pub mod PresenceRows
 pub mod CursorRows
-pub mod SessionRows
+pub mod ReportRows
 pub mod FrameLemmas

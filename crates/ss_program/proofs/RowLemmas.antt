@@ -1,25 +1,14 @@
--- What sending rows leaves: those of `windows` and of `list`, one after the other.
-use Rattle.ss_program.proofs.Common.{◌≡◌, ℕ, suc, ◌+◌, ◌-◌, ◌<◌, ◌≤◌, ◌++◌, List, [], ◌∷◌, length, map, take, drop, take_all, Option, Some, None, IsSome}
-use Rattle.ss_program.proofs.Common.{IfSome, Ok, Err, Result, sym, ap, ◌∙◌, arith, inl, inr, drop-cons, flat_map-append, append-nil, length-append}
-use Rattle.ss_program.proofs.Common.{length-map, take-append-drop, take-append-le, take_more, get_or_from_slice_get, slice_get-map, slice_get_cases}
-use Rattle.ss_program.proofs.Common.{slice_get_within, flat_map, slice_get, option_map, IsErr, Windows, StandsIn, index_of, place_at, placed_of, Placed, Stream}
-use Rattle.ss_program.proofs.Common.{state, stream_named, said_line, Reply, Refused, WindowsHead, Window, ListHead, History, command_brings, stream_rows}
-use Rattle.ss_program.proofs.Common.{text_said, window_rows, appended, AppendsLess, Sends, Failed}
-use Rattle.ss_command.specs.declared.command.Command.TheVariants.{List as ListAll}
+-- What sending rows leaves, one after the other, and where the window that is next stands.
+use Rattle.ss_program.proofs.Common.{◌≡◌, ℕ, suc, ◌+◌, ◌≤◌, ◌++◌, List, [], ◌∷◌, length, map, take, drop, take_all, Option, Some, None, IsSome, IfSome, Ok, Err}
+use Rattle.ss_program.proofs.Common.{Result, sym, ap, ◌∙◌, arith, inl, inr, drop-cons, flat_map-append, append-nil, length-append, take-append-drop}
+use Rattle.ss_program.proofs.Common.{take-append-le, take_more, get_or_from_slice_get, slice_get-map, slice_get_cases, slice_get_within, flat_map, slice_get}
+use Rattle.ss_program.proofs.Common.{option_map, index_of, place_at, Stream, said_line, Reply, appended, AppendsLess, Sends}
 use Rattle.ss_line.specs.declared.entry.At.{At}
 use Rattle.ss_line.specs.declared.entry.Entry.{Entry}
-use Rattle.ss_program.proofs.SendLemmas.{AppendsLess-after, AppendsLess-none, appended-appended, appended-nil}
-use Rattle.ss_program.proofs.AnswerLemmas.{brings-unknown, brings-windows}
-use Rattle.ss_program.proofs.TextLemmas.{said_line-some}
-use Rattle.ss_catalog.specs.declared.refusal.Refusal.TheVariants as refusals
+use Rattle.ss_program.proofs.SendLemmas.{AppendsLess-after, appended-appended}
+use Rattle.ss_program.specs.Rows.{place_next}
 
 module _ (speaker : Option ℕ) where
-  -- one reply alone
-  pub Sends-one : (before after : Option (List ℕ)) {E : Type 0} (reply : Reply) (sent : Result (Unit {0}) E) → Sends before after (said_line speaker reply)
-      sent →
-      Sends before after (flat_map (said_line speaker) (reply ∷ [])) sent
-  Sends-one before after reply sent sends = rw append-nil sends
-
   -- a head was sent, and then its rows
   pub Sends-head : (before held after : Option (List ℕ)) (head : Reply) (rows : List Reply) {E : Type 0} (sent : Result (Unit {0}) E) →
       held ≡ appended before (said_line speaker head) → Sends held after (flat_map (said_line speaker) rows) sent →
@@ -38,6 +27,13 @@ module _ (speaker : Option ℕ) where
     omega (arith, less.1, length-append (said_line speaker head) (flat_map (said_line speaker) rows)),
     less.2 ∙ ap (λ bs. appended before bs) (sym (take-append-le less.0 (said_line speaker head) (flat_map (said_line speaker) rows) (omega (arith, less.1)))),
   )
+
+-- the element at a place is the first of those from there on
+pub drop-at : {X : Type 0} (xs : List X) (place : ℕ) (x : X) → slice_get xs place ≡ Some x → drop place xs ≡ x ∷ drop (place + 1) xs
+drop-at xs place x is =
+    let next : suc place ≡ place + 1 = omega arith in
+    drop-cons xs place x (slice_get_within xs place x is)
+    ∙ ap (λ y. y ∷ drop (suc place) xs) (get_or_from_slice_get xs place x x is) ∙ ap (λ n. x ∷ drop n xs) next
 
 -- the row at a place stands between those before it and others
 rows-at : (rows : List Reply) (place : ℕ) (row : Reply) → slice_get rows place ≡ Some row →
@@ -87,51 +83,9 @@ module _ (speaker : Option ℕ) where
       after ≡ appended before (flat_map (said_line speaker) (take count rows)) → after ≡ appended before (flat_map (said_line speaker) rows)
   rows-all before after rows count all is = is ∙ ap (λ rs. appended before (flat_map (said_line speaker) rs)) (take_all count rows (omega (arith, all)))
 
-  -- the head of `list`, and the rows after it
-  pub list-head : (history : History) (before after : Option (List ℕ)) (count : ℕ) → count ≡ length (state history) →
-      AppendsLess before after (said_line speaker (ListHead count)) → AppendsLess before after (text_said speaker (command_brings history ListAll))
-  list-head history before after count is less =
-      AppendsLess-head speaker before after (ListHead (length (state history))) (stream_rows (state history)) (rw is at less)
-
-  pub list-rows : (history : History) (before held after : Option (List ℕ)) (count : ℕ) {E : Type 0} (sent : Result (Unit {0}) E) → count ≡ length
-      (state history) →
-      held ≡ appended before (said_line speaker (ListHead count)) → Sends held after (flat_map (said_line speaker) (stream_rows (state history))) sent →
-      Sends before after (text_said speaker (command_brings history ListAll)) sent
-  list-rows history before held after count sent is first rows =
-      Sends-head speaker before held after (ListHead (length (state history))) (stream_rows (state history)) sent (rw is at first) rows
-
-  -- what `windows` brings: the head, and the rows after it, or the refusal
-  pub windows-unknown : (history : History) (name : List ℕ) (before after : Option (List ℕ)) {E : Type 0} (sent : Result (Unit {0}) E) →
-      stream_named name (state history) ≡ None → Sends before after (said_line speaker (Refused refusals.Unknown)) sent →
-      Sends before after (text_said speaker (command_brings history (Windows name))) sent
-  windows-unknown history name before after sent none sends = rw brings-unknown (Sends-one speaker before after (Refused refusals.Unknown) sent sends)
-
-  pub windows-head : (history : History) (name : List ℕ) (s : Stream) (before after : Option (List ℕ)) (count : ℕ) →
-      stream_named name (state history) ≡ Some s → count ≡ length s.windows → AppendsLess before after (said_line speaker (WindowsHead count)) →
-      AppendsLess before after (text_said speaker (command_brings history (Windows name)))
-  windows-head history name s before after count is all less =
-      rw (brings-windows history name s is) (AppendsLess-head speaker before after (WindowsHead (length s.windows)) (window_rows s) (rw all at less))
-
-  pub windows-rows : (history : History) (name : List ℕ) (s : Stream) (before held after : Option (List ℕ)) (count : ℕ)
-      {E : Type 0} (sent : Result (Unit {0}) E) → stream_named name (state history) ≡ Some s → count ≡ length s.windows →
-      held ≡ appended before (said_line speaker (WindowsHead count)) → Sends held after (flat_map (said_line speaker) (window_rows s)) sent →
-      Sends before after (text_said speaker (command_brings history (Windows name))) sent
-  windows-rows history name s before held after count sent is all first rows =
-      rw (brings-windows history name s is) (Sends-head speaker before held after (WindowsHead (length s.windows)) (window_rows s) sent (rw all at first) rows)
-
--- how many windows of a stream were sent, where this one is next
-abbrev pub rows_done : List (At × Entry) → Option At → ℕ
-rows_done entries None = length entries
-rows_done entries (Some at) = index_of entries at
-
--- and how many are left, of a stream that may stand
-abbrev pub rows_left : Option (List (At × Entry)) → Option At → ℕ
-rows_left None next = 0
-rows_left (Some entries) next = length entries - rows_done entries next
-
 -- the window at an index is next
-rows_at : (entries : List (At × Entry)) (index : ℕ) (next : Option At) → index ≤ length entries → next ≡ place_at entries index →
-    IfSome next (λ at. index_of entries at ≡ index) → rows_done entries next ≡ index
+pub rows_at : (entries : List (At × Entry)) (index : ℕ) (next : Option At) → index ≤ length entries → next ≡ place_at entries index →
+    IfSome next (λ at. index_of entries at ≡ index) → place_next entries next ≡ index
 rows_at entries index None within is same =
     let past = (slice_get_cases entries index).1 in
     elim past [
@@ -141,91 +95,6 @@ rows_at entries index None within is same =
       | inr outside ↦ omega (arith, outside.0, within)
     ]
 rows_at entries index (Some at) within is same = same
-
-pub rows-first : {P : Type 0} (part : Option P) (entries_of : P → List (At × Entry)) (next : Option At) →
-    IfSome part (λ p. next ≡ place_at (entries_of p) 0) → IfSome part (λ p. IfSome next (λ at. index_of (entries_of p) at ≡ 0)) →
-    IfSome part (λ p. rows_done (entries_of p) next ≡ 0)
-rows-first None entries_of next is index = tt
-rows-first (Some p) entries_of next is index = rows_at (entries_of p) 0 next (omega arith) is index
-
-pub rows-after : {P : Type 0} (part : Option P) (entries_of : P → List (At × Entry)) (at : At) (next : Option At) →
-    IfSome part (λ p. StandsIn (entries_of p) at) → IfSome part (λ p. next ≡ place_at (entries_of p) (index_of (entries_of p) at + 1)) →
-    IfSome part (λ p. IfSome next (λ after. index_of (entries_of p) after ≡ index_of (entries_of p) at + 1)) →
-    IfSome part (λ p. rows_done (entries_of p) next ≡ index_of (entries_of p) at + 1)
-rows-after None entries_of at next stands is index = tt
-rows-after (Some p) entries_of at next stands is index =
-    rows_at (entries_of p) (index_of (entries_of p) at + 1) next (omega (arith, stands)) is index
-
-module _ (speaker : Option ℕ) where
-  -- none was sent yet
-  pub none-sent : {P : Type 0} (part : Option P) (entries_of : P → List (At × Entry)) (next : Option At) (s : Stream) (held : Option (List ℕ)) →
-      IfSome part (λ p. rows_done (entries_of p) next ≡ 0) →
-      IfSome part (λ p. held ≡ appended held (flat_map (said_line speaker) (take (rows_done (entries_of p) next) (window_rows s))))
-  none-sent None entries_of next s held first = tt
-  none-sent (Some p) entries_of next s held first = rw first (sym (appended-nil held))
-
-  -- one window more was sent
-  pub rows-step : {P : Type 0} (part : Option P) (entries_of : P → List (At × Entry)) (at : At) (next : Option At) (s : Stream) (o : Option Stream)
-      (before held after : Option (List ℕ)) (window : Placed) → o ≡ Some s →
-      IfSome part (λ p. held ≡ appended before (flat_map (said_line speaker) (take (index_of (entries_of p) at) (window_rows s)))) →
-      IfSome part (λ p. IfSome o (λ x. slice_get (map placed_of x.windows) (index_of (entries_of p) at) ≡ Some window)) →
-      IfSome part (λ p. rows_done (entries_of p) next ≡ index_of (entries_of p) at + 1) → after ≡ appended held (said_line speaker (Window window)) →
-      IfSome part (λ p. after ≡ appended before (flat_map (said_line speaker) (take (rows_done (entries_of p) next) (window_rows s))))
-  rows-step None entries_of at next s o before held after window is so_far row done sent = tt
-  rows-step (Some p) entries_of at next s o before held after window is so_far row done sent =
-      let found = rw is at row in
-      rw done (rows-more speaker before held after (window_rows s) (index_of (entries_of p) at) (Window window)
-      (row-reply placed_of (λ w. Window w) s.windows (index_of (entries_of p) at) window found) so_far sent)
-
-  -- or less than one more
-  pub rows-cut : {P : Type 0} (part : Option P) (entries_of : P → List (At × Entry)) (at : At) (s : Stream) (o : Option Stream)
-      (before held after : Option (List ℕ)) (window : Placed) → o ≡ Some s → IsSome part →
-      IfSome part (λ p. held ≡ appended before (flat_map (said_line speaker) (take (index_of (entries_of p) at) (window_rows s)))) →
-      IfSome part (λ p. IfSome o (λ x. slice_get (map placed_of x.windows) (index_of (entries_of p) at) ≡ Some window)) →
-      AppendsLess held after (said_line speaker (Window window)) → AppendsLess before after (flat_map (said_line speaker) (window_rows s))
-  rows-cut None entries_of at s o before held after window is some so_far row less = cc
-  rows-cut (Some p) entries_of at s o before held after window is some so_far row less =
-      let found = rw is at row in
-      rows-less speaker before held after (window_rows s) (index_of (entries_of p) at) (Window window)
-      (row-reply placed_of (λ w. Window w) s.windows (index_of (entries_of p) at) window found) so_far less
-
-  pub rows-cut-sent : {P : Type 0} (part : Option P) (entries_of : P → List (At × Entry)) (at : At) (s : Stream) (o : Option Stream)
-      (before held after : Option (List ℕ)) (window : Placed) → o ≡ Some s → IsSome part →
-      IfSome part (λ p. held ≡ appended before (flat_map (said_line speaker) (take (index_of (entries_of p) at) (window_rows s)))) →
-      IfSome part (λ p. IfSome o (λ x. slice_get (map placed_of x.windows) (index_of (entries_of p) at) ≡ Some window)) →
-      (sent : Result Unit Failed) → IsErr sent → Sends held after (said_line speaker (Window window)) sent →
-      Sends before after (flat_map (said_line speaker) (window_rows s)) sent
-  rows-cut-sent part entries_of at s o before held after window is some so_far row (Ok u) failed less = cc
-  rows-cut-sent part entries_of at s o before held after window is some so_far row (Err e) failed less =
-      rows-cut part entries_of at s o before held after window is some so_far row less
-
-  -- or one more wasn't read
-  pub unread : (before held : Option (List ℕ)) (rows : List Reply) (index : ℕ) → index < length rows →
-      held ≡ appended before (flat_map (said_line speaker) (take index rows)) → AppendsLess before held (flat_map (said_line speaker) rows)
-  unread before held rows index inside so_far = elim (slice_get_cases rows index).1 [
-    | inl here ↦ rows-less speaker before held held rows index here.0 here.2 so_far (AppendsLess-none held (said_line speaker here.0)
-        (said_line-some speaker here.0))
-    | inr past ↦ absurd (omega (arith, past.0, inside))
-  ]
-
-  pub rows-unread : {P : Type 0} (part : Option P) (entries_of : P → List (At × Entry)) (at : At) (s : Stream) (before held : Option (List ℕ)) →
-      IsSome part → IfSome part (λ p. StandsIn (entries_of p) at) → IfSome part (λ p. length (entries_of p) ≡ length s.windows) →
-      IfSome part (λ p. held ≡ appended before (flat_map (said_line speaker) (take (index_of (entries_of p) at) (window_rows s)))) →
-      AppendsLess before held (flat_map (said_line speaker) (window_rows s))
-  rows-unread None entries_of at s before held some stands all so_far = cc
-  rows-unread (Some p) entries_of at s before held some stands all so_far =
-      unread before held (window_rows s) (index_of (entries_of p) at) (omega (arith, stands, all, length-map s.windows (λ w. Window (placed_of w)))) so_far
-
-  -- all were sent where none is next
-  pub rows-end : {P : Type 0} (part : Option P) (entries_of : P → List (At × Entry)) (next : Option At) (s : Stream) (before held : Option (List ℕ)) →
-      IsSome part →
-      next ≡ None → IfSome part (λ p. length (entries_of p) ≡ length s.windows) →
-      IfSome part (λ p. held ≡ appended before (flat_map (said_line speaker) (take (rows_done (entries_of p) next) (window_rows s)))) →
-      held ≡ appended before (flat_map (said_line speaker) (window_rows s))
-  rows-end None entries_of next s before held some none all so_far = cc
-  rows-end (Some p) entries_of None s before held some none all so_far =
-      rows-all speaker before held (window_rows s) (length (entries_of p)) (omega (arith, all, length-map s.windows (λ w. Window (placed_of w)))) so_far
-  rows-end (Some p) entries_of (Some at) s before held some none all so_far = cc
 
 -- how many windows are counted
 pub windows-count : {P : Type 0} (part : Option P) (entries_of : P → List (At × Entry)) (s : Stream) (count : ℕ) → IsSome part →

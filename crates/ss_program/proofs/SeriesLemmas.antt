@@ -1,13 +1,13 @@
--- What sending the rows of a series leaves.
-use Rattle.ss_program.proofs.Common.{◌≡◌, ℕ, ◌+◌, ◌<◌, ◌++◌, List, [], ◌∷◌, length, map, take, Option, Some, None, Result, refl, sym, ap, ◌∙◌, arith}
-use Rattle.ss_program.proofs.Common.{length-map, slice_get-map, flat_map, slice_get, is_some, nat_lt, option_map, row_count, row_query, row_start, rows_of}
-use Rattle.ss_program.proofs.Common.{whole_query, Query, Refusal, Series, row-known, row-taken, outcome_of, refuses_series, Stream, state, Outcome, said_line}
+-- The rows of a series, one after another.
+use Rattle.ss_program.proofs.Common.{◌≡◌, ℕ, ◌+◌, ◌<◌, ◌≤◌, ◌++◌, List, [], ◌∷◌, length, map, drop, Option, Some, None, refl, sym, ap, ◌∙◌, arith, drop_all}
+use Rattle.ss_program.proofs.Common.{length-drop, length-map, slice_get-map, flat_map, slice_get, is_some, nat_lt, option_map, row_count, row_query, row_start}
+use Rattle.ss_program.proofs.Common.{rows_of, whole_query, Query, Refusal, Series, row-known, row-taken, outcome_of, refuses_series, Stream, state, Outcome}
 use Rattle.ss_program.proofs.Common.{Reply, SeriesHead, Row, StoreState, part_named, History, command_brings, refused, row_shown, series_rows, only_replies}
-use Rattle.ss_program.proofs.Common.{text_said, unless_refused, appended, AppendsLess, Sends}
+use Rattle.ss_program.proofs.Common.{unless_refused}
 use Rattle.ss_catalog.proofs.SeriesLemmas.{length-rows_of, slice_get-rows_of}
 use Rattle.ss_command.specs.declared.command.Command.TheVariants.{Series as AskRows}
 use Rattle.ss_store.specs.Asked.{refuses_query_held}
-use Rattle.ss_program.proofs.RowLemmas.{AppendsLess-head, Sends-head, rows-all, rows-less, rows-more, unread}
+use Rattle.ss_program.proofs.RowLemmas.{drop-at}
 
 -- rows of which each is answered
 rows-as : (streams : List Stream) (series : Series) (answers : ℕ → Outcome) →
@@ -51,37 +51,19 @@ module _ (streams : List Stream) (series : Series) (none : refuses_series stream
   row-at row query outcome inside q is =
       slice_get-series_rows row outcome inside (ap (λ p. outcome_of streams p) (sym q) ∙ is) ∙ ap (λ (p : Query). Some (Row p.from outcome)) (sym q)
 
-  -- one row more was sent
-  pub row-sent : (speaker : Option ℕ) (row : ℕ) (query : Query) (outcome : Outcome) (before held after : Option (List ℕ)) → row < row_count series →
-      query ≡ row_query series row → outcome_of streams query ≡ Some outcome →
-      held ≡ appended before (flat_map (said_line speaker) (take row (series_rows streams series))) →
-      after ≡ appended held (said_line speaker (Row query.from outcome)) →
-      after ≡ appended before (flat_map (said_line speaker) (take (row + 1) (series_rows streams series)))
-  row-sent speaker row query outcome before held after inside q is so_far sent =
-      rows-more speaker before held after (series_rows streams series) row (Row query.from outcome) (row-at row query outcome inside q is) so_far sent
+  -- one of them is taken
+  pub series-taken : (row : ℕ) (query : Query) (outcome : Outcome) → row < row_count series → query ≡ row_query series row →
+      outcome_of streams query ≡ Some outcome →
+      drop row (series_rows streams series) ≡ Row query.from outcome ∷ drop (row + 1) (series_rows streams series)
+  series-taken row query outcome inside q is = drop-at (series_rows streams series) row (Row query.from outcome) (row-at row query outcome inside q is)
 
-  -- or less than one more
-  pub row-cut : (speaker : Option ℕ) (row : ℕ) (query : Query) (outcome : Outcome) (before held after : Option (List ℕ)) → row < row_count series →
-      query ≡ row_query series row → outcome_of streams query ≡ Some outcome →
-      held ≡ appended before (flat_map (said_line speaker) (take row (series_rows streams series))) →
-      AppendsLess held after (said_line speaker (Row query.from outcome)) →
-      AppendsLess before after (flat_map (said_line speaker) (series_rows streams series))
-  row-cut speaker row query outcome before held after inside q is so_far less =
-      rows-less speaker before held after (series_rows streams series) row (Row query.from outcome) (row-at row query outcome inside q is) so_far less
+  -- or it wasn't answered
+  pub series-unread : (row : ℕ) → row < row_count series → 0 < length (drop row (series_rows streams series))
+  series-unread row inside = omega (arith, inside, length-series_rows, length-drop row (series_rows streams series))
 
-  -- all rows were sent
-  pub row-end : (speaker : Option ℕ) (row : ℕ) (before held : Option (List ℕ)) → row ≡ row_count series →
-      held ≡ appended before (flat_map (said_line speaker) (take row (series_rows streams series))) →
-      held ≡ appended before (flat_map (said_line speaker) (series_rows streams series))
-  row-end speaker row before held last so_far =
-      rows-all speaker before held (series_rows streams series) row (omega (arith, last, length-series_rows)) so_far
-
-  -- a row wasn't answered
-  pub row-unread : (speaker : Option ℕ) (row : ℕ) (before held : Option (List ℕ)) → row < row_count series →
-      held ≡ appended before (flat_map (said_line speaker) (take row (series_rows streams series))) →
-      AppendsLess before held (flat_map (said_line speaker) (series_rows streams series))
-  row-unread speaker row before held inside so_far =
-      unread speaker before held (series_rows streams series) row (omega (arith, inside, length-series_rows)) so_far
+  -- or none is left
+  pub series-ended : (row : ℕ) → row_count series ≤ row → drop row (series_rows streams series) ≡ []
+  series-ended row past = drop_all row (series_rows streams series) (omega (arith, past, length-series_rows))
 
 -- a series that is refused brings its refusal
 pub brings-refused_series : (history : History) (series : Series) (refusal : Refusal) → refuses_series (state history) series ≡ Some refusal →
@@ -94,22 +76,6 @@ pub brings-series : (history : History) (series : Series) → refuses_series (st
     command_brings history (AskRows series) ≡ only_replies (SeriesHead series.kind (row_count series) ∷ series_rows (state history) series)
 brings-series history series none =
     ap (λ r. unless_refused r (only_replies (SeriesHead series.kind (row_count series) ∷ series_rows (state history) series))) none
-
-module _ (speaker : Option ℕ) where
-  -- less than the head was sent
-  pub series-head : (history : History) (series : Series) (before after : Option (List ℕ)) → refuses_series (state history) series ≡ None →
-      AppendsLess before after (said_line speaker (SeriesHead series.kind (row_count series))) →
-      AppendsLess before after (text_said speaker (command_brings history (AskRows series)))
-  series-head history series before after none less =
-      rw brings-series (AppendsLess-head speaker before after (SeriesHead series.kind (row_count series)) (series_rows (state history) series) less)
-
-  -- or the head, and the rows after it
-  pub series-sent : (history : History) (series : Series) (before held after : Option (List ℕ)) {E : Type 0} (sent : Result (Unit {0}) E) →
-      refuses_series (state history) series ≡ None → held ≡ appended before (said_line speaker (SeriesHead series.kind (row_count series))) →
-      Sends held after (flat_map (said_line speaker) (series_rows (state history) series)) sent →
-      Sends before after (text_said speaker (command_brings history (AskRows series))) sent
-  series-sent history series before held after sent none first rows =
-      rw brings-series (Sends-head speaker before held after (SeriesHead series.kind (row_count series)) (series_rows (state history) series) sent first rows)
 
 -- a row of a series that isn't refused isn't either, by what is held
 pub row-taken_held : (store : StoreState) (series : Series) (row : ℕ) → 0 < series.step → row < row_count series →

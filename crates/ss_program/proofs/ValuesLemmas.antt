@@ -1,15 +1,17 @@
--- What `values` brings, by what the store holds, and what sending the rows leaves.
-use Rattle.ss_program.proofs.Common.{◌≡◌, ◌∙◌, ℕ, zero, suc, ◌+◌, ◌<◌, ◌≤◌, List, [], ◌∷◌, length, take, drop, Option, Some, None, IsSome, IfSome, Result, refl}
-use Rattle.ss_program.proofs.Common.{sym, ap, arith, length-drop, length-map, length-take-le, slice_get-map, flat_map, slice_get, option_map, Refusal}
-use Rattle.ss_program.proofs.Common.{Values, Landmark, LandmarkValue, all_values, values_between, refuses_values, Stream, state, stream_named, said_line, Reply}
-use Rattle.ss_program.proofs.Common.{Refused, ValuesHead, SomeAgree, StoreIsIn, StoreState, part_named, part_numbered, refuses_values_held, Stands}
-use Rattle.ss_program.proofs.Common.{AllAgree-recovered, refuses_values_held-is, SendsRows, Brought, History, command_brings, only_replies, refused, text_said}
-use Rattle.ss_program.proofs.Common.{unless_refused, value_rows, values_shown, appended, AppendsLess, Sends}
+-- What `values` brings, by what the store holds, and its rows, one after another.
+use Rattle.ss_program.proofs.Common.{◌≡◌, ◌∙◌, ℕ, suc, ◌+◌, ◌≤◌, List, [], ◌∷◌, length, take, drop, true, false, Option, Some, None, IsSome, IfSome, refl, sym}
+use Rattle.ss_program.proofs.Common.{ap, inl, inr, cases_Bool, slice_get, is_some, Refusal, Values, Landmark, LandmarkValue, all_values, values_between}
+use Rattle.ss_program.proofs.Common.{stands, Stream, state, stream_named, ValuesHead, SomeAgree, StoreIsIn, StoreState, part_named, part_numbered}
+use Rattle.ss_program.proofs.Common.{refuses_values_held, Stands, AllAgree-recovered, refuses_values_held-is, Brought, History, command_brings, only_replies}
+use Rattle.ss_program.proofs.Common.{refused, unless_refused, value_rows, values_shown}
+use Rattle.ss_model.specs.Newest.{refuses_values}
+use Rattle.ss_parts.specs.declared.parts.StreamParts.{StreamParts}
 use Rattle.ss_report.specs.declared.reply.Reply.TheVariants.{Value as ValueRow}
 use Rattle.ss_store.specs.Values.{AreValuesIn}
 use Rattle.ss_store.specs.declared.store.values.ValueRange.{ValueRange}
 use Rattle.ss_store.proofs.Named.{SomeAgree-named}
-use Rattle.ss_program.proofs.RowLemmas.{AppendsLess-head, Sends-head, Sends-one, rows-all, rows-less, rows-more}
+use Rattle.ss_program.proofs.RowLemmas.{drop-at}
+use Rattle.ss_program.specs.Rows.{values_left}
 
 -- a command that is refused brings its refusal
 brings-unvalued : (history : History) (name : List ℕ) (from to : ℕ) (refusal : Refusal) →
@@ -29,10 +31,6 @@ brings-values history name from to s none is =
 abbrev pub values_told : ℕ → ℕ → List Landmark → Brought
 values_told from to landmarks = only_replies (ValuesHead (length (values_between landmarks from to)) ∷ value_rows (values_between landmarks from to))
 
--- the rows of a range
-abbrev pub rows_in : ValueRange → List Landmark → List Reply
-rows_in range landmarks = value_rows (take range.count (drop range.first (all_values landmarks)))
-
 -- what is held has the landmarks of the stream
 landmarks_alike : (part : _) (o : Option Stream) → SomeAgree part o →
     IfSome part (λ p. (s : Stream) × (o ≡ Some s) × (p.landmarks.landmarks ≡ s.landmarks))
@@ -50,11 +48,11 @@ told_alike (Some p) landmarks_of history name from to none alike =
     ∙ ap (λ ls. values_told from to ls) (sym alike.2)
 
 module _ (store : StoreState) (image : List ℕ) (history : History) (name : List ℕ) (from to : ℕ) (kept : StoreIsIn store image)
-    (stands : Stands history image) where
+    (told : Stands history image) where
   -- what is refused by what the store holds
   refuses_values-kept : refuses_values_held store.streams name from to ≡ refuses_values (state history) name from to
   refuses_values-kept =
-      refuses_values_held-is store.streams (state history) name from to (AllAgree-recovered store image (state history) kept stands.state).0
+      refuses_values_held-is store.streams (state history) name from to (AllAgree-recovered store image (state history) kept told.state).0
 
   -- what is brought, by what the store holds
   pub told-refused : (refusal : Refusal) → refuses_values_held store.streams name from to ≡ Some refusal →
@@ -67,92 +65,51 @@ module _ (store : StoreState) (image : List ℕ) (history : History) (name : Lis
   told-values number none same =
       rw same (told_alike (part_named name store.streams) (λ p. p.landmarks.landmarks) history name from to (sym refuses_values-kept ∙ none)
       (landmarks_alike (part_named name store.streams) (stream_named name (state history))
-      (SomeAgree-named store.streams (state history) name (AllAgree-recovered store image (state history) kept stands.state).0)))
+      (SomeAgree-named store.streams (state history) name (AllAgree-recovered store image (state history) kept told.state).0)))
 
--- an element of the first ones, and of those after some
-slice_get-take : {X : Type 0} (xs : List X) (count place : ℕ) → place < count → slice_get (take count xs) place ≡ slice_get xs place
-slice_get-take xs zero place below = absurd (omega (arith, below))
-slice_get-take [] (suc count) place below = refl
-slice_get-take (x ∷ xs) (suc count) zero below = refl
-slice_get-take (x ∷ xs) (suc count) (suc place) below = slice_get-take xs count place (omega (arith, below))
+-- a command that isn't refused names a stream that stands
+some-stream : (o : Option Stream) → is_some o ≡ true → (s : Stream) × (o ≡ Some s)
+some-stream None known = (let wrong : false ≡ true = known in cc)
+some-stream (Some s) known = (s, refl)
 
-slice_get-drop : {X : Type 0} (xs : List X) (first place : ℕ) → slice_get (drop first xs) place ≡ slice_get xs (first + place)
-slice_get-drop xs zero place = let same : place ≡ 0 + place = omega arith in ap (λ n. slice_get xs n) same
-slice_get-drop [] (suc first) place = refl
-slice_get-drop (x ∷ xs) (suc first) place =
-    let same : suc (first + place) ≡ suc first + place = omega arith in slice_get-drop xs first place ∙ ap (λ n. slice_get (x ∷ xs) n) same
+pub known-values : (streams : List Stream) (name : List ℕ) (from to : ℕ) → refuses_values streams name from to ≡ None →
+    (s : Stream) × (stream_named name streams ≡ Some s)
+unfolding refuses_values
+known-values streams name from to none = elim (cases_Bool (stands name streams)) [
+  | inl known ↦ some-stream (stream_named name streams) known
+  | inr unknown ↦ (let wrong = rw unknown at none in cc)
+]
 
--- the row at a place of a range
-row-at : (all : List LandmarkValue) (first count place : ℕ) (value : LandmarkValue) → place < count → slice_get all (first + place) ≡ Some value →
-    slice_get (value_rows (take count (drop first all))) place ≡ Some (ValueRow value.t value.v)
-row-at all first count place value below at =
-    slice_get-map (λ (v : LandmarkValue). ValueRow v.t v.v) (take count (drop first all)) place
-    ∙ ap (λ o. option_map (λ (v : LandmarkValue). ValueRow v.t v.v) o)
-    (slice_get-take (drop first all) count place below ∙ slice_get-drop all first place ∙ at)
+-- the values of a range begin with the one at its first place
+take-first : (all : List LandmarkValue) (first count rest : ℕ) (value : LandmarkValue) → slice_get all first ≡ Some value → count ≡ suc rest →
+    take count (drop first all) ≡ value ∷ take rest (drop (first + 1) all)
+take-first all first count rest value at is =
+    ap (λ n. take n (drop first all)) is ∙ ap (λ vs. take (suc rest) vs) (drop-at all first value at)
 
--- how many rows a range has
-rows-count : (all : List LandmarkValue) (first count : ℕ) → first + count ≤ length all → count ≡ length (value_rows (take count (drop first all)))
-rows-count all first count within =
-    sym (length-map (take count (drop first all)) (λ (v : LandmarkValue). ValueRow v.t v.v)
-    ∙ length-take-le count (drop first all) (omega (arith, within, length-drop first all)))
+-- the head, and the rows behind it
+pub values-begun : (part : Option StreamParts) (from to : ℕ) (range : ValueRange) (brought : Brought) → IsSome part →
+    IfSome part (λ p. AreValuesIn p.landmarks.landmarks from to range) → IfSome part (λ p. brought ≡ values_told from to p.landmarks.landmarks) →
+    brought.replies ≡ ValuesHead range.count ∷ values_left part range
+values-begun None from to range brought some are is = cc
+values-begun (Some p) from to range brought some are is =
+    ap (λ (b : Brought). b.replies) is ∙ ap (λ n. ValuesHead n ∷ value_rows (values_between p.landmarks.landmarks from to)) (sym are.count)
+    ∙ ap (λ vs. ValuesHead range.count ∷ value_rows vs) are.values
 
-module _ (speaker : Option ℕ) where
-  -- a refusal alone was sent
-  pub values-refused : (before after : Option (List ℕ)) (brought : Brought) (refusal : Refusal) {E : Type 0} (sent : Result (Unit {0}) E) →
-      brought ≡ refused refusal → Sends before after (said_line speaker (Refused refusal)) sent → Sends before after (text_said speaker brought) sent
-  values-refused before after brought refusal sent is sends = rw is (Sends-one speaker before after (Refused refusal) sent sends)
+pub values-within : (part : Option StreamParts) (from to : ℕ) (range : ValueRange) → IfSome part (λ p. AreValuesIn p.landmarks.landmarks from to range) →
+    IfSome part (λ p. range.first + range.count ≤ length (all_values p.landmarks.landmarks))
+values-within None from to range are = tt
+values-within (Some p) from to range are = are.within
 
-  -- less than the head was sent
-  pub values-head : {P : Type 0} (part : Option P) (landmarks_of : P → List Landmark) (from to : ℕ) (range : ValueRange)
-      (brought : Brought) (before after : Option (List ℕ)) →
-      IsSome part → IfSome part (λ p. AreValuesIn (landmarks_of p) from to range) → IfSome part (λ p. brought ≡ values_told from to (landmarks_of p)) →
-      AppendsLess before after (said_line speaker (ValuesHead range.count)) → AppendsLess before after (text_said speaker brought)
-  values-head None landmarks_of from to range brought before after some are is less = cc
-  values-head (Some p) landmarks_of from to range brought before after some are is less =
-      let values = values_between (landmarks_of p) from to in
-      rw is (AppendsLess-head speaker before after (ValuesHead (length values)) (value_rows values) (rw are.count at less))
+-- the first of them is taken
+pub values-taken : (part : Option StreamParts) (range after : ValueRange) (value : LandmarkValue) → IsSome part →
+    IfSome part (λ p. slice_get (all_values p.landmarks.landmarks) range.first ≡ Some value) → after.first ≡ range.first + 1 →
+    range.count ≡ suc after.count → values_left part range ≡ ValueRow value.t value.v ∷ values_left part after
+values-taken None range after value some at first count = cc
+values-taken (Some p) range after value some at first count =
+    ap (λ vs. value_rows vs) (take-first (all_values p.landmarks.landmarks) range.first range.count after.count value at count)
+    ∙ ap (λ n. ValueRow value.t value.v ∷ value_rows (take after.count (drop n (all_values p.landmarks.landmarks)))) (sym first)
 
-  -- or the head, and then rows
-  pub values-rows : {P : Type 0} (part : Option P) (landmarks_of : P → List Landmark) (from to : ℕ) (range : ValueRange)
-      (brought : Brought) (before held after : Option (List ℕ))
-      {E : Type 0} (sent : Result (Unit {0}) E) → IsSome part → IfSome part (λ p. AreValuesIn (landmarks_of p) from to range) →
-      IfSome part (λ p. brought ≡ values_told from to (landmarks_of p)) → held ≡ appended before (said_line speaker (ValuesHead range.count)) →
-      IfSome part (λ p. SendsRows speaker held after (rows_in range (landmarks_of p)) sent) → Sends before after (text_said speaker brought) sent
-  values-rows None landmarks_of from to range brought before held after sent some are is first rows = cc
-  values-rows (Some p) landmarks_of from to range brought before held after sent some are is first rows =
-      let values = values_between (landmarks_of p) from to in
-      rw is (Sends-head speaker before held after (ValuesHead (length values)) (value_rows values) sent (rw are.count at first) (rw are.values rows))
-
-  -- one row of a range more was sent
-  pub values-more : {P : Type 0} (part : Option P) (landmarks_of : P → List Landmark) (range : ValueRange)
-      (place : ℕ) (value : LandmarkValue) (before held after : Option (List ℕ)) →
-      place < range.count → IfSome part (λ p. slice_get (all_values (landmarks_of p)) (range.first + place) ≡ Some value) →
-      IfSome part (λ p. held ≡ appended before (flat_map (said_line speaker) (take place (rows_in range (landmarks_of p))))) →
-      after ≡ appended held (said_line speaker (ValueRow value.t value.v)) →
-      IfSome part (λ p. after ≡ appended before (flat_map (said_line speaker) (take (place + 1) (rows_in range (landmarks_of p)))))
-  values-more None landmarks_of range place value before held after below at so_far sent = tt
-  values-more (Some p) landmarks_of range place value before held after below at so_far sent =
-      rows-more speaker before held after (rows_in range (landmarks_of p)) place (ValueRow value.t value.v)
-      (row-at (all_values (landmarks_of p)) range.first range.count place value below at) so_far sent
-
-  -- less than one more
-  pub values-less : {P : Type 0} (part : Option P) (landmarks_of : P → List Landmark) (range : ValueRange)
-      (place : ℕ) (value : LandmarkValue) (before held after : Option (List ℕ)) →
-      place < range.count → IfSome part (λ p. slice_get (all_values (landmarks_of p)) (range.first + place) ≡ Some value) →
-      IfSome part (λ p. held ≡ appended before (flat_map (said_line speaker) (take place (rows_in range (landmarks_of p))))) →
-      AppendsLess held after (said_line speaker (ValueRow value.t value.v)) →
-      IfSome part (λ p. AppendsLess before after (flat_map (said_line speaker) (rows_in range (landmarks_of p))))
-  values-less None landmarks_of range place value before held after below at so_far less = tt
-  values-less (Some p) landmarks_of range place value before held after below at so_far less =
-      rows-less speaker before held after (rows_in range (landmarks_of p)) place (ValueRow value.t value.v)
-      (row-at (all_values (landmarks_of p)) range.first range.count place value below at) so_far less
-
-  -- or all of them
-  pub values-all : {P : Type 0} (part : Option P) (landmarks_of : P → List Landmark) (range : ValueRange)
-      (place : ℕ) (before held : Option (List ℕ)) → place ≡ range.count →
-      IfSome part (λ p. range.first + range.count ≤ length (all_values (landmarks_of p))) →
-      IfSome part (λ p. held ≡ appended before (flat_map (said_line speaker) (take place (rows_in range (landmarks_of p))))) →
-      IfSome part (λ p. held ≡ appended before (flat_map (said_line speaker) (rows_in range (landmarks_of p))))
-  values-all None landmarks_of range place before held is within so_far = tt
-  values-all (Some p) landmarks_of range place before held is within so_far =
-      rows-all speaker before held (rows_in range (landmarks_of p)) place (is ∙ rows-count (all_values (landmarks_of p)) range.first range.count within) so_far
+-- or none is left
+pub values-ended : (part : Option StreamParts) (range : ValueRange) → range.count ≡ 0 → values_left part range ≡ []
+values-ended None range none = refl
+values-ended (Some p) range none = rw none refl

@@ -1,12 +1,13 @@
 pub mod Line
 pub mod Cursor
 pub mod Talk
-pub mod Session
+pub mod Report
 pub mod Sent
 pub mod Devices
 pub mod Progress
 pub mod Answer
 pub mod Series
+pub mod Rows
 pub mod Certifying
 pub mod Amid
 pub mod Opened

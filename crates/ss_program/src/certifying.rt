@@ -1,31 +1,26 @@
-// Shows why an end of an answer can't be narrower, filters aside: the evidence is made and checked, and then sent.
-ghost use Rattle.std.specs.Prelude.{◌≡◌, true, IsTrue, IfOk, IfErr, None, OnOk};
+// Why an end of an answer can't be narrower, filters aside: the evidence is made and checked, and then shown.
+ghost use Rattle.std.specs.Prelude.{◌≡◌, true, drop, IsTrue, IfOk, IfErr, None, Ok, OnOk};
 ghost use Rattle.ss_catalog.specs.Queries.{is_certified};
 ghost use Rattle.ss_certify.specs.Evidence.{IsRight};
-ghost use Rattle.ss_certify.specs.Told.{told};
 ghost use Rattle.ss_command.specs.declared.command.Command.TheVariants.{Certify};
 ghost use Rattle.ss_outside.specs.Crash.{OnlyReads};
 ghost use Rattle.ss_outside.specs.Disk.{OfContent};
 ghost use Rattle.ss_outside.specs.Step.{Step};
 ghost use Rattle.ss_store.specs.Asked.{refuses_query_held};
-ghost use Rattle.ss_program.specs.Answer.{IsOpen, IsTextBrought, ReadsAnswer, Shows};
-ghost use Rattle.ss_program.specs.Certifying.{HasEvidence, SendsRight};
-ghost use Rattle.ss_program.specs.Devices.{over};
-ghost use Rattle.ss_program.specs.Line.{IsSpeaker};
+ghost use Rattle.ss_program.specs.Answer.{IsOpen, ReadsAnswer};
+ghost use Rattle.ss_program.specs.Certifying.{AreRight, HasEvidence, sides_told};
+ghost use Rattle.ss_program.specs.Rows.{AreBrought, IsFirstOf, RowsStand, TakesHeld};
 ghost use Rattle.ss_program.specs.Status.{disk_verdict, ended, IsDiskStop};
 
-use crate::answer::{at_sink, send_replies, send_reply};
+use crate::rows::{MOST_LINES, Rows};
 use crate::series::refusal_of;
 use crate::status::Status;
 use arrayvec::ArrayVec;
 use ss_catalog::{End, Query};
 use ss_certify::{Evidence, check, head, make, side};
-use ss_outside::{Disk, Sink};
+use ss_outside::Disk;
 use ss_report::Reply;
 use ss_store::{AskError, Store};
-
-// A head, and two lines for each of the two windows that a range splits at most.
-const MOST_LINES: usize = 5;
 
 // Makes the evidence for an end of the answer to a query that isn't refused.
 fn make_evidence<D: Disk>(
@@ -65,6 +60,7 @@ fn check_evidence<D: Disk>(
     requires made { OfContent (D.seen disk.old) (HasEvidence query.now end evidence.now) }
     ensures reads { Step (disk_verdict (ended result)) (D.seen disk.old) (D.seen disk.new) OnlyReads }
     ensures right { OnOk result (IsRight query.now.kind end evidence.now) }
+    ensures streams { store.new.streams ≡ store.old.streams }
     ensures open { OnOk result (IsOpen (D.seen disk.new) store.new) }
     ensures status { IfErr result (IsDiskStop (D.seen disk.old).tells) }
 {
@@ -90,6 +86,7 @@ fn find_evidence<D: Disk>(
     requires taken { refuses_query_held store.old.streams query.now ≡ None }
     ensures finds { Step (disk_verdict (ended result)) (D.seen disk.old) (D.seen disk.new) (ReadsAnswer (HasEvidence query.now end) result) }
     ensures right { IfOk result (IsRight query.now.kind end) }
+    ensures streams { store.new.streams ≡ store.old.streams }
     ensures open { OnOk result (IsOpen (D.seen disk.new) store.new) }
     ensures status { IfErr result (IsDiskStop (D.seen disk.old).tells) }
 {
@@ -98,12 +95,11 @@ fn find_evidence<D: Disk>(
     Ok(evidence)
 }
 
-// The lines of evidence, in order.
-fn lines_of(evidence: &Evidence) -> ArrayVec<Reply, MOST_LINES>
-    ensures { result.items ≡ told evidence.now }
+// The lines of evidence behind its head, in order.
+fn sides_of(evidence: &Evidence) -> ArrayVec<Reply, MOST_LINES>
+    ensures { result.items ≡ sides_told evidence.now }
 {
     let mut lines = ArrayVec::new();
-    lines.push(head(evidence));
     for cert in evidence.certs.as_slice() {
         lines.push(side(cert, true));
         lines.push(side(cert, false));
@@ -111,26 +107,47 @@ fn lines_of(evidence: &Evidence) -> ArrayVec<Reply, MOST_LINES>
     lines
 }
 
-/// Shows an end of the answer to a query and why it can't be narrower, filters aside, or why the query is refused. No line of evidence
-/// is sent that a check didn't find right.
-pub fn show_certificate<D: Disk, K: Sink>(
-    speaker: Option<u8>,
+/// Begins to show an end of the answer to a query and why it can't be narrower, filters aside, or says why the query is refused. There
+/// is no line of evidence that a check didn't find right.
+pub fn begin_certificate<D: Disk>(
     store: &mut Store,
     query: &Query,
     end: End,
     disk: &mut D,
-    sink: &mut K,
-) -> Result<(), Status>
-    requires speaker { IsSpeaker speaker }
+) -> Result<(Reply, Rows), Status>
     requires kind { IsTrue (is_certified query.now.kind) }
     requires open { IsOpen (D.seen disk.old) store.old }
-    ensures shows { Shows (IsTextBrought speaker (Certify query.now end)) (over (D.seen disk.old) (K.held sink.old) (K.faults sink.old))
-        (over (D.seen disk.new) (K.held sink.new) (K.faults sink.new)) store.new result }
-    ensures right { refuses_query_held store.old.streams query.now ≡ None → SendsRight speaker query.now.kind end (K.held sink.old) (K.held sink.new) result }
+    ensures begins { Step (disk_verdict (ended result)) (D.seen disk.old) (D.seen disk.new)
+        (ReadsAnswer (AreBrought (Certify query.now end) store.old.streams) result) }
+    ensures stand { IfOk result (λ begun. RowsStand store.old.streams begun.1) }
+    ensures right { refuses_query_held store.old.streams query.now ≡ None → IfOk result (AreRight query.now.kind end) }
+    ensures streams { store.new.streams ≡ store.old.streams }
+    ensures open { OnOk result (IsOpen (D.seen disk.new) store.new) }
+    ensures status { IfErr result (IsDiskStop (D.seen disk.old).tells) }
 {
     if let Some(refusal) = refusal_of(store, query) {
-        return at_sink(send_reply(speaker, &Reply::Refused(refusal), sink));
+        return Ok((Reply::Refused(refusal), Rows::End));
     }
     let evidence = find_evidence(store, query, end, disk)?;
-    at_sink(send_replies(speaker, lines_of(&evidence).as_slice(), sink))
+    let lines = sides_of(&evidence);
+    Ok((head(&evidence), Rows::Lines { lines, next: 0 }))
+}
+
+/// Takes the next of the lines that are made already.
+pub fn next_line(
+    lines: &ArrayVec<Reply, MOST_LINES>,
+    next: &mut usize,
+    store: &Store,
+) -> Option<Reply>
+    ensures takes { TakesHeld store.now (Rows.Lines lines.now next.old) (Rows.Lines lines.now next.new) result }
+    // Over every disk: only a line that was made is taken, each in its turn.
+    ensures first { IsFirstOf (Ok result) (drop next.old lines.now.items) (drop next.new lines.now.items) }
+{
+    let lines = lines.as_slice();
+    if *next >= lines.len() {
+        return None;
+    }
+    let line = lines[*next];
+    *next += 1;
+    Some(line)
 }

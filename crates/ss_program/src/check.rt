@@ -6,7 +6,7 @@ ghost use Rattle.ss_program.specs.Devices.{over};
 ghost use Rattle.ss_program.specs.Ending.{Ends, IsUnfed};
 ghost use Rattle.ss_program.specs.Sent.{Puts};
 
-use crate::refuse::refuse;
+use crate::refusing::refuse;
 use crate::sending::send;
 use crate::status::Status;
 use arrayvec::ArrayString;

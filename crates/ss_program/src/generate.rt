@@ -17,7 +17,7 @@ ghost use Rattle.ss_program.specs.Status.{disk_verdict, ended, sink_verdict, IsA
 ghost use Rattle.ss_program.specs.Tally.{IsSingle, RunsAll, Tallies};
 
 use crate::answer::{Question, ask, send_replies};
-use crate::refuse::refuse;
+use crate::refusing::refuse;
 use crate::sending::send;
 use crate::staging::stage;
 use crate::status::Status;

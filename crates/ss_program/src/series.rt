@@ -1,20 +1,19 @@
-// Shows a series: each of its rows is asked by itself, one after another.
-ghost use Rattle.std.specs.Prelude.{◌≡◌, None, IfErr, OnOk};
+// The rows of a series, one after another: each is asked by itself.
+ghost use Rattle.std.specs.Prelude.{◌≡◌, None, IfOk, IfErr, OnOk};
 ghost use Rattle.ss_catalog.specs.Series.{IsSeriesInRange, whole_query};
 ghost use Rattle.ss_command.specs.declared.command.Command.TheVariants.{Series as AskRows};
 ghost use Rattle.ss_outside.specs.Step.{Step};
 ghost use Rattle.ss_store.specs.Asked.{refuses_query_held};
-ghost use Rattle.ss_program.specs.Answer.{IsOpen, IsTextBrought, ReadsAnswer, Shows};
-ghost use Rattle.ss_program.specs.Devices.{over};
-ghost use Rattle.ss_program.specs.Line.{IsSpeaker};
-ghost use Rattle.ss_program.specs.Series.{IsAnswerIn, IsSeriesText};
+ghost use Rattle.ss_program.specs.Answer.{IsOpen, ReadsAnswer};
+ghost use Rattle.ss_program.specs.Rows.{Begins, RowsGoOn, SeriesStands, TakesRow};
+ghost use Rattle.ss_program.specs.Series.{IsAnswerIn};
 ghost use Rattle.ss_program.specs.Status.{disk_verdict, ended, IsDiskStop};
 
-use crate::answer::{at_sink, send_reply};
+use crate::rows::Rows;
 use crate::status::Status;
 use ss_catalog::{Query, Refusal, Series};
 use ss_model::Outcome;
-use ss_outside::{Disk, Sink};
+use ss_outside::Disk;
 use ss_report::Reply;
 use ss_store::{AskError, Store};
 
@@ -61,57 +60,49 @@ fn answer_query<D: Disk>(store: &mut Store, query: &Query, disk: &mut D) -> Resu
     }
 }
 
-// Sends the rows of a series, in order.
-fn send_rows<D: Disk, K: Sink>(
-    speaker: Option<u8>,
-    store: &mut Store,
-    series: &Series,
-    disk: &mut D,
-    sink: &mut K,
-) -> Result<(), Status>
-    requires speaker { IsSpeaker speaker }
-    requires range { IsSeriesInRange series.now }
-    requires open { IsOpen (D.seen disk.old) store.old }
-    requires taken { refuses_query_held store.old.streams (whole_query series.now) ≡ None }
-    ensures { Shows (IsSeriesText speaker series.now) (over (D.seen disk.old) (K.held sink.old) (K.faults sink.old))
-        (over (D.seen disk.new) (K.held sink.new) (K.faults sink.new)) store.new result }
-{
-    for row in 0..series.rows() {
-        let query = series.row(row);
-        let outcome = answer_query(store, &query, disk)?;
-        let reply = Reply::Row {
-            at: query.from,
-            outcome,
-        };
-        at_sink(send_reply(speaker, &reply, sink))?;
-    }
-    Ok(())
-}
-
-/// Shows the rows of a series, or why it is refused.
-pub fn show_series<D: Disk, K: Sink>(
-    speaker: Option<u8>,
-    store: &mut Store,
-    series: &Series,
-    disk: &mut D,
-    sink: &mut K,
-) -> Result<(), Status>
-    requires speaker { IsSpeaker speaker }
-    requires range { IsSeriesInRange series.now }
-    requires open { IsOpen (D.seen disk.old) store.old }
-    ensures { Shows (IsTextBrought speaker (AskRows series.now)) (over (D.seen disk.old) (K.held sink.old) (K.faults sink.old))
-        (over (D.seen disk.new) (K.held sink.new) (K.faults sink.new)) store.new result }
+/// Begins to show the rows of a series, or says why it is refused.
+pub fn begin_series(store: &Store, series: &Series) -> (Reply, Rows)
+    requires { IsSeriesInRange series.now }
+    ensures { Begins (AskRows series.now) store.now result }
 {
     if let Some(refusal) = refusal_of(store, &whole_query(series)) {
-        return at_sink(send_reply(speaker, &Reply::Refused(refusal), sink));
+        return (Reply::Refused(refusal), Rows::End);
     }
-    at_sink(send_reply(
-        speaker,
-        &Reply::SeriesHead {
-            kind: series.kind,
-            count: series.rows(),
-        },
-        sink,
-    ))?;
-    send_rows(speaker, store, series, disk, sink)
+    let head = Reply::SeriesHead {
+        kind: series.kind,
+        count: series.rows(),
+    };
+    let rows = Rows::Series {
+        series: *series,
+        next: 0,
+    };
+    (head, rows)
+}
+
+/// Takes the next row of a series: asks its query.
+pub fn next_answer<D: Disk>(
+    series: &Series,
+    next: &mut u32,
+    store: &mut Store,
+    disk: &mut D,
+) -> Result<Option<Reply>, Status>
+    requires stands { SeriesStands store.old.streams series.now }
+    requires open { IsOpen (D.seen disk.old) store.old }
+    ensures takes { Step (disk_verdict (ended result)) (D.seen disk.old) (D.seen disk.new)
+        (TakesRow store.old.streams (Rows.Series series.now next.old) (Rows.Series series.now next.new) result) }
+    ensures goes_on { IfOk result (RowsGoOn (Rows.Series series.now next.old) (Rows.Series series.now next.new) store.old.streams) }
+    ensures streams { store.new.streams ≡ store.old.streams }
+    ensures open { OnOk result (IsOpen (D.seen disk.new) store.new) }
+    ensures status { IfErr result (IsDiskStop (D.seen disk.old).tells) }
+{
+    if *next >= series.rows() {
+        return Ok(None);
+    }
+    let query = series.row(*next);
+    let outcome = answer_query(store, &query, disk)?;
+    *next += 1;
+    Ok(Some(Reply::Row {
+        at: query.from,
+        outcome,
+    }))
 }

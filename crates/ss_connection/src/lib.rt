@@ -1,0 +1,10 @@
+//! A store in the caller's own process: a connection that is handed one line or one event after another, and the laws of its calls.
+#![tactic(auto)]
+
+mod bare;
+mod connection;
+mod laws;
+mod text;
+
+pub use connection::{Connection, Taken};
+pub use laws::{calls_say_what_a_run_says, typed_calls_do_what_lines_say};
