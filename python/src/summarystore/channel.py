@@ -35,7 +35,9 @@ class Channel(Base[Connection]):
                  backend: Name | None = None, library: File | None = None) -> None:
         super().__init__(path, backend_of(backend, program, library), program, translator, existing, checked,
                          renew_at)
-        self._changed = threading.Condition()
+        # Held by itself: no interrupt comes between its taking and the `with` that gives it back.
+        self._lock = threading.RLock()
+        self._changed = threading.Condition(self._lock)
         self._mine = threading.local()
         self._let_go: deque[tuple[int, Connection]] = deque()
         self._pumping = False
@@ -59,7 +61,7 @@ class Channel(Base[Connection]):
     def _ready(self) -> None:
         """Before the names are written: the process is up, so the store is locked and they are known."""
         self._must_be_mine()
-        with self._changed:
+        with self._lock:
             self._up()
 
     def _must_be_mine(self) -> None:
@@ -89,7 +91,7 @@ class Channel(Base[Connection]):
             yield held
             return
         self._must_be_mine()    # before the lock, which another thread may have held at a fork
-        with self._changed:
+        with self._lock:
             while (session := self._sessions.take()) is None:
                 self._changed.wait()
         self._mine.session = session
@@ -97,7 +99,7 @@ class Channel(Base[Connection]):
             yield session
         finally:
             self._mine.session = None
-            with self._changed:
+            with self._lock:
                 self._sessions.give(session)
                 self._changed.notify_all()
 
@@ -107,7 +109,7 @@ class Channel(Base[Connection]):
 
     def _submit(self, request: Request, only: Connection | None = None) -> Connection:
         """Sends a request: where a process is named, to that one or its successor, or to none."""
-        with self._changed:
+        with self._lock:
             self._renew()
             if only is not None and only.newest() is not self._connection:
                 request.finish(request.interrupted(only.failure()))
@@ -124,7 +126,7 @@ class Channel(Base[Connection]):
 
     def _wait(self, request: Request) -> None:
         """Waits for the replies. One of those who wait moves the bytes for all."""
-        with self._changed:
+        with self._lock:
             while not request.done:
                 self._pump()
 
@@ -197,7 +199,7 @@ class Channel(Base[Connection]):
         """Ends the connection in order, after all that is under way. Twice does no harm."""
         if self._owner != os.getpid():
             return
-        with self._changed:
+        with self._lock:
             if self._closed:
                 return
             while self._connection is not None and not self._connection.idle:
@@ -211,7 +213,7 @@ class Channel(Base[Connection]):
     def open_cursor(self, codec: Codec) -> tuple[int, Connection]:
         """A session with a cursor of a stream, and the process that it belongs to."""
         owner = threading.get_ident()
-        with self._changed:
+        with self._lock:
             self._close_let_go()
             connection = self._up()
             while (session := self._sessions.take_cursor(owner)) is None:
@@ -253,7 +255,7 @@ class Channel(Base[Connection]):
                 self.close_cursor(*gone)
 
     def _give_cursor(self, session: int, connection: Connection) -> None:
-        with self._changed:
+        with self._lock:
             if self._connection is connection:
                 self._sessions.give_cursor(session)
             self._changed.notify_all()

@@ -21,6 +21,7 @@ from .wire import LONGEST_LINE, LONGEST_SENT, NAME, Readings, Reply, rows_after
 
 APPEND = re.compile(r"append ([a-zA-Z0-9_.-]{1,32}) ([0-9]{1,19}) (-?[0-9]{1,19})")
 UNFILLED = 2**64 - 1
+"""What stands in a place until the library fills it, and no stream has so many values."""
 
 
 class Task(Protocol):
@@ -138,7 +139,7 @@ class Lines:
         if filled != at:
             return None
         if isinstance(place, Ack):
-            return Reply(f"ok {place.values} {place.windows}") if place.values else None
+            return Reply(f"ok {place.values} {place.windows}") if place.values != UNFILLED else None
         return Reply(place.content.decode("utf-8").rstrip("\n")) if place.at is not None else None
 
     def _reply(self, at: int, line: str, work: Work) -> Reply:
@@ -155,7 +156,7 @@ class Lines:
 
     def _append(self, at: int, found: re.Match[str], work: Work) -> Reply:
         """A reading waits for others that come at once, so that they share their way to the disk."""
-        ack = Ack()
+        ack = Ack(UNFILLED, 0)
         self._place = at, ack
         work.waits = True
         answer = work.handle.append(found[1].encode("ascii"), int(found[2]), int(found[3]), ack)
