@@ -6,8 +6,9 @@ import os
 import threading
 import warnings
 from collections import defaultdict, deque
-from collections.abc import Iterator, Sequence
+from collections.abc import Callable, Iterator, Sequence
 from contextlib import contextmanager, suppress
+from itertools import starmap
 from typing import TypeVar
 
 from . import calls, older
@@ -24,6 +25,27 @@ from .wire import MOST_ROWS, Reply
 
 T = TypeVar("T")
 LOOK_AGAIN = 0.1
+
+
+def without(lock: threading._RLock, work: Callable[[], None]) -> None:
+    """Does something while a lock is free, which is held again afterwards, also where an interrupt comes.
+
+    What is called by one call has no interrupt between it and the note that it was done.
+    """
+    free: list[None] = []
+    held: list[bool] = []
+    interrupted: BaseException | None = None
+    try:
+        free.extend(starmap(lock.release, [()]))
+        work()
+    finally:
+        while free and not held:
+            try:
+                held.extend(starmap(lock.acquire, [()]))
+            except BaseException as error:      # while it was waited for
+                interrupted = error
+    if interrupted is not None:
+        raise interrupted
 
 
 class Channel(Base[Connection]):
@@ -146,11 +168,7 @@ class Channel(Base[Connection]):
         """Does what can be done, after waiting for that. The lock is free meanwhile."""
         connection = self._connection
         assert connection is not None
-        self._changed.release()
-        try:
-            connection.poll()
-        finally:
-            self._changed.acquire()
+        without(self._lock, connection.poll)
         if connection is not self._connection:
             return      # another thread has given it up
         try:
