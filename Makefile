@@ -6,7 +6,7 @@ PREFIX = /usr/local
 # The processor that packages are for, amd64 or arm64.
 ARCH = $(shell dpkg --print-architecture)
 
-.PHONY: build demo fleet-demo test faults python install arm64 deb deb-test archive release reproduce bench help
+.PHONY: build demo fleet-demo test faults python install lib arm64 deb deb-test archive release reproduce bench help
 
 build: ## proves and builds the program
 	@tools/build summarystore
@@ -32,6 +32,8 @@ faults: ## tries the program that was built last on files while something goes w
 	@faults/damage $(PROGRAM) 10000
 	@faults/bits $(PROGRAM) 100
 	@faults/memory $(PROGRAM)
+	@test -e out/lib/libsummarystore.a || $(MAKE) lib
+	@faults/library $(PROGRAM)
 
 python: ## tries the Python package over the program that was built last: python/README.md
 	@test -x $(PROGRAM) || $(MAKE) build
@@ -39,6 +41,9 @@ python: ## tries the Python package over the program that was built last: python
 
 install: ## installs the released program, or where none is of this tree or with PROVE=1 a proved one: PREFIX=/usr/local
 	@packaging/install $(DESTDIR)$(PREFIX)
+
+lib: ## proves and builds the library for C, in out/lib; for ARCH=arm64 in out/arm64/lib: docs/GUIDE.md, "From C"
+	@ARCH=$(ARCH) packaging/library
 
 arm64: ## proves and builds the program for aarch64, in out/arm64: packaging/README.md
 	@packaging/arm64

@@ -1,4 +1,4 @@
-/* What the program calls of the system but for the C library, on processors for which the toolchain has no build of it.
+/* What the program and the library call of the system but for the C library, on processors for which the toolchain has no build of it.
  * The contracts are the toolchain's, in `libc/src/heap.rt` and `os/src/c.rt` below its folder of sources. No proof covers
  * this file: it is trusted. On x86-64 the gate compares each function with the toolchain's own. */
 #include <errno.h>
@@ -22,15 +22,6 @@ struct tried {
 typedef unsigned char byte;
 
 static byte nothing;
-static int count;
-static char **arguments;
-
-/* glibc calls this before `main`, with what the program was called with. */
-__attribute__((constructor)) static void keep_arguments(int argc, char **argv)
-{
-    count = argc;
-    arguments = argv;
-}
 
 static struct tried tried(void *p)
 {
@@ -68,6 +59,19 @@ void HOST(set_errno)(int32_t error)
     errno = error;
 }
 
+/* A library has none. */
+#ifndef WITHOUT_ARGUMENTS
+
+static int count;
+static char **arguments;
+
+/* glibc calls this before `main`, with what the program was called with. */
+__attribute__((constructor)) static void keep_arguments(int argc, char **argv)
+{
+    count = argc;
+    arguments = argv;
+}
+
 /* How many words the program was called with, its name among them. */
 size_t HOST(arg_count)(void)
 {
@@ -84,3 +88,5 @@ ptrdiff_t HOST(arg)(size_t i, byte *buffer, size_t room)
     memcpy(buffer, arguments[i], length < room ? length : room);
     return length <= room ? (ptrdiff_t)length : -2;
 }
+
+#endif

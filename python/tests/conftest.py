@@ -12,7 +12,9 @@ import pytest
 from hypothesis import HealthCheck, settings
 
 import summarystore
-from summarystore.errors import CommandError, ProgramMissingError, UnknownStreamError
+from summarystore import backends, library
+from summarystore.errors import (CommandError, LibraryMissingError, ProgramMissingError,
+                                 UnknownStreamError)
 from summarystore.program import find_program
 from summarystore.store import Store
 
@@ -28,6 +30,9 @@ ROWS = int(os.environ.get("SUMMARYSTORE_TEST_ROWS", "20000"))
 IMPORTED = int(os.environ.get("SUMMARYSTORE_TEST_IMPORT_ROWS", "20000"))
 """How many rows the import has that is killed. The gate takes a million."""
 
+LIBRARY = os.environ.get(library.VARIABLE)
+"""The library that is tested. Without it that is the system's."""
+
 HOME = Path(__file__).resolve().parents[1]
 
 
@@ -38,6 +43,39 @@ def program() -> str:
         return find_program()
     except ProgramMissingError as error:
         pytest.fail(str(error))
+
+
+def pytest_generate_tests(metafunc: pytest.Metafunc) -> None:
+    """What has a backend is tested over both, but for what is marked as one of the program alone."""
+    if "backend" in metafunc.fixturenames:
+        alone = metafunc.definition.get_closest_marker("by_program") is not None
+        metafunc.parametrize("backend", ["program"] if alone else backends.NAMES, indirect=True)
+
+
+@pytest.fixture(autouse=True)
+def by_program(monkeypatch: pytest.MonkeyPatch) -> None:
+    """The program is what a test asks that doesn't say anything else, also by other processes."""
+    monkeypatch.setattr(backends, "DEFAULT", "program")
+    monkeypatch.delenv(library.VARIABLE, raising=False)
+
+
+def must_have_library() -> library.Library:
+    """The library. A test is left out where it isn't built."""
+    try:
+        return library.find_library(LIBRARY)
+    except LibraryMissingError:
+        pytest.skip("what is asked by the library: it isn't built (make lib)")
+
+
+@pytest.fixture
+def backend(request: pytest.FixtureRequest, by_program: None, program: str,
+            monkeypatch: pytest.MonkeyPatch) -> str:
+    """By what the stores of a test are asked. `.ci/python` says which library that is."""
+    name = str(request.param)
+    if name == "library":
+        monkeypatch.setenv(library.VARIABLE, must_have_library().path)
+    monkeypatch.setattr(backends, "DEFAULT", name)
+    return name
 
 
 @pytest.fixture
@@ -56,14 +94,14 @@ def path(folder: Path, program: str) -> Path:
 
 
 @pytest.fixture
-def store(path: Path) -> Iterator[Store]:
+def store(path: Path, backend: str) -> Iterator[Store]:
     """A store with names and scales."""
     with summarystore.open(path) as opened:
         yield opened
 
 
 @pytest.fixture
-def plain(path: Path) -> Iterator[Store]:
+def plain(path: Path, backend: str) -> Iterator[Store]:
     """A store of whole numbers."""
     with Store(path) as opened:
         yield opened

@@ -47,7 +47,7 @@ def test_what_is_no_file(folder: Path) -> None:
     assert is_unmade(str(folder / "link")) and not is_unmade(str(folder / "file" / "below"))
 
 
-def test_a_new_store_is_checked(path: Path) -> None:
+def test_a_new_store_is_checked(path: Path, backend: str) -> None:
     for _ in range(2):
         with summarystore.open(path) as store:
             assert store.list() == []
@@ -56,7 +56,7 @@ def test_a_new_store_is_checked(path: Path) -> None:
         assert store.check().streams == 0
 
 
-def test_a_plain_one_stays_plain(path: Path) -> None:
+def test_a_plain_one_stays_plain(path: Path, backend: str) -> None:
     summarystore.open(path, checked=False).close()
     for checked in (None, False):
         summarystore.open(path, checked=checked).close()
@@ -107,7 +107,7 @@ def test_the_service(path: Path) -> None:
 
 
 @pytest.mark.parametrize("words, kind", [([], CHECKED), (["--checked"], CHECKED), (["--no-checked"], PLAIN)])
-def test_an_import(path: Path, folder: Path, words: list[str], kind: bytes) -> None:
+def test_an_import(path: Path, folder: Path, backend: str, words: list[str], kind: bytes) -> None:
     (folder / "a.csv").write_text("time,value\n1764406800,1\n")
     assert importing.main([str(path), str(folder / "a.csv"), "--quiet", *words]) == 0
     assert kind_of(path) == kind

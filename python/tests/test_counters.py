@@ -95,7 +95,7 @@ def test_what_rose() -> None:
     assert increase_of(Interval.nothing(), Interval.nothing(), Interval(1)).none
 
 
-def test_a_meter(path: Path) -> None:
+def test_a_meter(path: Path, backend: str) -> None:
     day = "2026-11-29T{:02}:00Z"
     with summarystore.open(path) as store:
         store.create(METER, "power 1 1 4 1", scale="0.1", unit="kWh", kind="counter", overflow="1000")

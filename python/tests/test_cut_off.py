@@ -15,7 +15,7 @@ import pytest
 from summarystore import Outcome, aio, errors, outcome_of
 from summarystore.pipeline import Appends, Pipeline
 from summarystore.store import Store
-from summarystore.wire import appends
+from summarystore.wire import readings
 
 Row = tuple[object, object]
 
@@ -147,7 +147,7 @@ def test_a_task_that_is_cancelled(path: Path) -> None:
 def test_lines_that_are_taken_back() -> None:
     pipeline = Pipeline()
     rows = list(range(1000))
-    first, second, third = (Appends(0, appends(0, "a", [(row, row) for row in rows]), rows)
+    first, second, third = (Appends(0, readings("a", [(row, row) for row in rows]), rows)
                             for _ in range(3))
     pipeline.add(first)
     pipeline.add(second)

@@ -48,8 +48,9 @@ def test_numbers_and_words_that_are_longer_than_a_line(plain: Store) -> None:
         plain.query("a", cast(Kind, "c" * 5000))
     with pytest.raises(LineTooLongError):
         plain.append("n" * 5000, 1, 1)
-    with pytest.raises(RowsRefusedError):
-        plain.append_many("n" * 5000, [(1, 1)])
+    for length in (33, 240, 300, 990, 5000):
+        with pytest.raises(RowsRefusedError, match="NAME" if length < 256 else "LINE"):
+            plain.append_many("n" * length, [(1, 1)])
     refused: list[object] = []
     rows = [(1, 1), (2, HUGE), (3, 3), (4, 10**6000), (HUGE, 5), (6, 6)]
     assert plain.append_many("a", rows, refused=lambda row, error: refused.append(row)) == 3
@@ -64,7 +65,7 @@ def test_rows_that_are_no_pairs(store: Store) -> None:
     assert store.query("a", "count") == 1
 
 
-def test_a_fork_holds_no_pipe_open(path: Path) -> None:
+def test_a_fork_holds_nothing_open(path: Path, backend: str) -> None:
     store = Store(path)
     store.create("a", "exp 2 1 1")
     told, tell = os.pipe()
@@ -82,6 +83,7 @@ def test_a_fork_holds_no_pipe_open(path: Path) -> None:
         began = time.monotonic()
         store.append("a", 1, 1)
         store.close()
+        Store(path).close()     # nor the lock
         in_time(began, 30)      # the child holds nothing that it waits for: that lives for 60
     finally:
         os.kill(child, signal.SIGKILL)
@@ -144,7 +146,7 @@ def test_fractions_are_of_seconds_and_whole() -> None:
             clock.time(text)
 
 
-def test_names_are_written_while_the_store_is_open_alone(path: Path) -> None:
+def test_names_are_written_while_the_store_is_open_alone(path: Path, backend: str) -> None:
     store = summarystore.open(path)
     store.create("room/a", "exp 2 1 1", scale="0.1")
     store.close()
@@ -158,7 +160,7 @@ def test_names_are_written_while_the_store_is_open_alone(path: Path) -> None:
 
 @pytest.mark.parametrize("change", [{"scale": "1"}, {"time": "ms"}, {"since": "1970-01-02"}, {"labels": []},
                                     {"scale": None, "time": None}, {"name": None}])
-def test_names_whose_numbers_mean_something_else(path: Path, change: dict[str, object]) -> None:
+def test_names_whose_numbers_mean_something_else(path: Path, backend: str, change: dict[str, object]) -> None:
     with summarystore.open(path) as store:
         store.create("room/a", "exp 2 1 1", scale="0.1")
         store.append("room/a", 1, "1.5")
@@ -170,7 +172,7 @@ def test_names_whose_numbers_mean_something_else(path: Path, change: dict[str, o
         summarystore.open(path)
 
 
-def test_paths_of_bytes(path: Path) -> None:
+def test_paths_of_bytes(path: Path, backend: str) -> None:
     with summarystore.open(os.fsencode(path)) as store:
         store.create("room/a", "exp 2 1 1", scale="0.1")
     assert Path(f"{path}.names.json").exists()
@@ -196,6 +198,7 @@ def test_late_rows_and_an_end_of_the_program(fake: Callable[[str], str], folder:
     assert (caught.value.status, caught.value.acknowledged, list(caught.value.unknown)) == (7, 1, [(3, 3)])
 
 
+@pytest.mark.by_program("it kills the process")
 def test_who_waits_for_a_cursor_when_the_program_ends(plain: Store) -> None:
     plain.create("a", "exp 2 1 1")
     plain.append("a", 1, 1)
@@ -261,6 +264,7 @@ def test_intervals_as_keys_and_what_two_of_them_hold() -> None:
         _ = maybe[0] & Interval(5, 6)
 
 
+@pytest.mark.by_program("it kills the process")
 def test_an_end_whose_wait_is_interrupted(plain: Store, monkeypatch: pytest.MonkeyPatch) -> None:
     plain.create("a", "exp 2 1 1")
 

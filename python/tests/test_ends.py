@@ -13,7 +13,7 @@ from pathlib import Path
 import pytest
 
 import summarystore
-from summarystore import errors
+from summarystore import errors, storefile
 from summarystore.store import Store
 
 Fake = Callable[[str], str]
@@ -66,7 +66,7 @@ def test_a_program_that_is_another(fake: Fake, folder: Path) -> None:
         Store(folder / "a", program=folder / "nothing")
 
 
-def test_files_that_are_refused(folder: Path, program: str) -> None:
+def test_files_that_are_refused(folder: Path, backend: str) -> None:
     (folder / "text").write_text("hello, this is no store\n" * 100)
     with pytest.raises(errors.DamagedStoreError, match="not a store"):
         summarystore.open(folder / "text")
@@ -78,14 +78,14 @@ def test_files_that_are_refused(folder: Path, program: str) -> None:
         summarystore.open(folder)
 
 
-def test_a_lock_held_by_another(path: Path) -> None:
+def test_a_lock_held_by_another(path: Path, backend: str) -> None:
     with Store(path):
         with pytest.raises(errors.LockedError):
             Store(path)
     Store(path).close()
 
 
-def test_a_name_like_an_option(folder: Path, program: str, monkeypatch: pytest.MonkeyPatch) -> None:
+def test_a_name_like_an_option(folder: Path, backend: str, monkeypatch: pytest.MonkeyPatch) -> None:
     monkeypatch.chdir(folder)
     with summarystore.open("-x") as store:
         store.create("a", "exp 2 1 1")
@@ -167,6 +167,27 @@ def test_a_cursor_ends_with_its_process(path: Path) -> None:
     store.close()
 
 
+@pytest.mark.filterwarnings("ignore::summarystore.errors.ReopenedWarning")
+def test_something_else_changes_the_file(path: Path, backend: str) -> None:
+    """Nothing is answered of it any more, and what became of rows is told."""
+    store = Store(path)
+    store.create("a", "exp 2 4096 1")
+    store.append_many("a", [(moment, 1) for moment in range(1, 5001)])
+    with open(path, "r+b") as file:
+        file.seek(storefile.FIRST_SLOT)
+        file.write(b"\7" * (path.stat().st_size - storefile.FIRST_SLOT))
+    with pytest.raises(errors.RecordChangedError) as changed:
+        store.query("a", "sum", 1, 3000)
+    assert changed.value.status == 9 and list(changed.value.unknown) == ["query a sum 1 3000"]
+    for _ in range(2):
+        with pytest.raises(errors.DamagedStoreError, match="damaged slot 0"):
+            store.query("a", "sum")
+    with pytest.raises(errors.DamagedStoreError) as ended:
+        store.append_many("a", [(6000, 1), (6001, 1)])
+    assert ended.value.acknowledged == 0 and list(ended.value.not_stored) == [(6000, 1), (6001, 1)]
+    store.close()
+
+
 def test_a_broken_pipe(fake: Fake, folder: Path) -> None:
     """The program closes its input while rows are written, and ends a little later."""
     store = Store(folder / "a", program=fake(f"{READY}; exec 0<&-; sleep 0.2; exit 5"))
@@ -176,7 +197,7 @@ def test_a_broken_pipe(fake: Fake, folder: Path) -> None:
     store.close()
 
 
-def test_a_fork_does_not_touch_it(path: Path) -> None:
+def test_a_fork_does_not_touch_it(path: Path, backend: str) -> None:
     store = Store(path)
     child = os.fork()
     if child == 0:
@@ -244,7 +265,7 @@ def small_disk(folder: Path) -> Iterator[Path]:
     subprocess.run(["umount", "-l", str(disk)], check=True)
 
 
-def test_a_full_disk(small_disk: Path, program: str) -> None:
+def test_a_full_disk(small_disk: Path, backend: str) -> None:
     store = summarystore.open(small_disk / "a.store")
     store.create("a", "exp 2 65536 1", unit="W")
     first = 100     # what is taken at once after them may be more than there is room for
@@ -262,7 +283,7 @@ def test_a_full_disk(small_disk: Path, program: str) -> None:
         assert description is not None and description.unit == "W"
 
 
-def test_a_full_disk_keeps_the_names(small_disk: Path, program: str) -> None:
+def test_a_full_disk_keeps_the_names(small_disk: Path, backend: str) -> None:
     with summarystore.open(small_disk / "a.store") as store:
         store.create("one", "exp 2 1 1", unit="W")
         before = (small_disk / "a.store.names.json").read_text()

@@ -25,7 +25,7 @@ ROWS = 300
 
 
 @pytest.fixture
-def disk(folder: Path, program: str) -> Iterator[Disk]:
+def disk(folder: Path, backend: str) -> Iterator[Disk]:
     """A disk with a store, whose last changes aren't in their places yet."""
     with small_disk(folder) as made, warnings.catch_warnings():
         warnings.simplefilter("ignore", errors.ReopenedWarning)
@@ -102,7 +102,7 @@ def test_asyncio(disk: Disk, monkeypatch: pytest.MonkeyPatch) -> None:
     run(work())
 
 
-def test_no_store_is_made_up(folder: Path, program: str) -> None:
+def test_no_store_is_made_up(folder: Path, backend: str) -> None:
     with small_disk(folder) as disk:
         disk.fill()
         with pytest.raises(errors.DiskFullError):

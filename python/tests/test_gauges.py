@@ -122,7 +122,7 @@ def some(store: Store, rule: str = "step") -> None:
     assert store.append(POWER, DAY.format("03:00"), 0).values == 4
 
 
-def test_watts_give_watt_hours(path: Path) -> None:
+def test_watts_give_watt_hours(path: Path, backend: str) -> None:
     with summarystore.open(path) as store:
         some(store)
     with summarystore.open(path) as store:
@@ -158,7 +158,7 @@ def test_a_quotient_that_does_not_end(store: Store) -> None:
     assert Fraction(found.lo) < Fraction(1, 3600) < Fraction(found.hi) and found.width < Decimal("1e-50")
 
 
-def test_it_goes_along(path: Path) -> None:
+def test_it_goes_along(path: Path, backend: str) -> None:
     """What is renamed and dropped, with the stream of its increments."""
     with summarystore.open(path) as store:
         some(store)

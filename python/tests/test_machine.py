@@ -17,8 +17,11 @@ from hypothesis import strategies as st
 from hypothesis.stateful import RuleBasedStateMachine, invariant, precondition, rule
 
 from summarystore import Presence, errors
+from summarystore.backends import Name
 from summarystore.kinds import Kind
 from summarystore.store import Store
+
+from .conftest import must_have_library
 
 RUNS = int(os.environ.get("SUMMARYSTORE_TEST_RUNS", "20"))
 STEPS = int(os.environ.get("SUMMARYSTORE_TEST_STEPS", "100"))
@@ -50,12 +53,15 @@ class Stream:
 class Machine(RuleBasedStateMachine):
     """Calls, each with its answer by the model. A call that was cut off may have been done or not."""
 
+    BACKEND: Name = "program"
+    library: str | None = None
+
     def __init__(self) -> None:
         super().__init__()
         memory = "/dev/shm" if os.access("/dev/shm", os.W_OK) else None
         self.folder = tempfile.mkdtemp(prefix="summarystore-", dir=memory)
         self.path = Path(self.folder) / "any.store"
-        self.store = Store(self.path)
+        self.store = Store(self.path, backend=self.BACKEND, library=self.library)
         self.streams: dict[str, Stream] = {}
 
     def teardown(self) -> None:
@@ -111,6 +117,7 @@ class Machine(RuleBasedStateMachine):
             found.append((time, value))
         return found
 
+    @precondition(lambda self: bool(self.BACKEND == "program"))
     @rule(name=NAMES, rows=st.lists(st.tuples(GAPS, VALUES), min_size=1, max_size=3000),
           at=st.integers(0, 3000))
     def append_many_killed(self, name: str, rows: list[tuple[int, int]], at: int) -> None:
@@ -145,6 +152,7 @@ class Machine(RuleBasedStateMachine):
         assert isinstance(last, int)
         return sum(time <= last for time in times)
 
+    @precondition(lambda self: bool(self.BACKEND == "program"))
     @rule()
     def kill(self) -> None:
         """Kills the process while nothing is under way. The next call tells, and then all goes on."""
@@ -160,7 +168,7 @@ class Machine(RuleBasedStateMachine):
     def reopen(self) -> None:
         """Closes the store, and opens it again."""
         self.store.close()
-        self.store = Store(self.path)
+        self.store = Store(self.path, backend=self.BACKEND, library=self.library)
 
     @rule(name=NAMES, gap=st.integers(-2, 5))
     def open_landmark(self, name: str, gap: int) -> None:
@@ -269,12 +277,25 @@ class Machine(RuleBasedStateMachine):
     @invariant()
     def counts(self) -> None:
         """No acknowledged value is lost."""
-        if self.store.pid is not None:
+        if self.BACKEND == "library" or self.store.pid is not None:
             for stream in self.store.list():
                 assert stream.values == len(self.streams[stream.name].values)
                 assert stream.landmark_values == len(self.streams[stream.name].marked)
 
 
+class LibraryMachine(Machine):
+    """The same over the library, which has no process to kill."""
+
+    BACKEND: Name = "library"
+
+    def __init__(self) -> None:
+        self.library = must_have_library().path
+        super().__init__()
+
+
+OFTEN = settings(max_examples=RUNS, stateful_step_count=STEPS, deadline=None,
+                 suppress_health_check=list(HealthCheck))
 TestAgainstTheModel = Machine.TestCase
-TestAgainstTheModel.settings = settings(
-    max_examples=RUNS, stateful_step_count=STEPS, deadline=None, suppress_health_check=list(HealthCheck))
+TestAgainstTheModel.settings = OFTEN
+TestLibraryAgainstTheModel = LibraryMachine.TestCase
+TestLibraryAgainstTheModel.settings = OFTEN

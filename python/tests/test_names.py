@@ -33,7 +33,7 @@ def described(path: Path) -> None:
         store.append("plain", 10, 5)
 
 
-def test_a_stream_is_renamed(path: Path) -> None:
+def test_a_stream_is_renamed(path: Path, backend: str) -> None:
     """It keeps what it holds, its old name can be another stream's, and a standing one keeps its own."""
     described(path)
     with summarystore.open(path) as store:
@@ -54,7 +54,7 @@ def test_a_stream_is_renamed(path: Path) -> None:
         assert str(store.query(ROOM, "sum")) == "1.5"
 
 
-def test_readings_as_people_have_them(path: Path) -> None:
+def test_readings_as_people_have_them(path: Path, backend: str) -> None:
     described(path)
     with summarystore.open(path, zone="Europe/Berlin") as store:
         assert store.query(ROOM, "max", "2026-11-29", "2026-11-29") == summarystore.Interval("21.5")
@@ -70,7 +70,7 @@ def test_readings_as_people_have_them(path: Path) -> None:
         assert store.query("Straße/Zähler", "sum") == 7
 
 
-def test_the_program_sees_whole_numbers(path: Path) -> None:
+def test_the_program_sees_whole_numbers(path: Path, backend: str) -> None:
     described(path)
     with Store(path) as plain:
         names = [stream.name for stream in plain.list()]
@@ -113,7 +113,7 @@ def test_a_refused_row_is_told(store: Store) -> None:
     assert met == [rows[1]] and str(store.query(ROOM, "sum")) == "4.0"
 
 
-def test_a_lost_file(path: Path) -> None:
+def test_a_lost_file(path: Path, backend: str) -> None:
     described(path)
     Path(f"{path}.names.json").unlink()
     with summarystore.open(path, zone="Europe/Berlin") as store:
@@ -141,7 +141,7 @@ def test_a_lost_file(path: Path) -> None:
     "", "{", "[]", '{"summarystore": 2, "streams": {}}', '{"summarystore": 1}',
     '{"summarystore": 1, "streams": {"a": {}}}', '{"summarystore": 1, "streams": []}',
     '{"summarystore": 1, "streams": {"a": {"name": "a", "scale": 0.1, "time": "s"}}}'])
-def test_a_damaged_file_is_left(path: Path, text: str) -> None:
+def test_a_damaged_file_is_left(path: Path, backend: str, text: str) -> None:
     described(path)
     names = Path(f"{path}.names.json")
     names.write_text(text)
@@ -152,7 +152,7 @@ def test_a_damaged_file_is_left(path: Path, text: str) -> None:
 
 
 @pytest.mark.parametrize("mode", [0o600, 0o640, 0o664])
-def test_whoever_may_read_the_store_may_read_its_names(path: Path, mode: int) -> None:
+def test_whoever_may_read_the_store_may_read_its_names(path: Path, backend: str, mode: int) -> None:
     with summarystore.open(path) as store:
         path.chmod(mode)
         for name in ("a/b", "a/c"):     # made, and replaced
@@ -179,7 +179,7 @@ def test_what_cannot_be_written_is_refused_before(store: Store, path: Path) -> N
         assert last is not None and last.time == datetime.datetime(1, 1, 2, tzinfo=datetime.timezone.utc)
 
 
-def test_a_description_without_its_stream(path: Path) -> None:
+def test_a_description_without_its_stream(path: Path, backend: str) -> None:
     """As a crash leaves it between the two: the stream can be made, also otherwise."""
     described(path)
     names = Path(f"{path}.names.json")
@@ -194,7 +194,7 @@ def test_a_description_without_its_stream(path: Path) -> None:
         assert str(store.query("new", "sum")) == "0.01"
 
 
-def test_a_file_that_is_older_than_its_store(path: Path) -> None:
+def test_a_file_that_is_older_than_its_store(path: Path, backend: str) -> None:
     described(path)
     names = Path(f"{path}.names.json")
     before = names.read_text()

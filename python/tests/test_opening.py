@@ -13,7 +13,7 @@ import summarystore
 from summarystore import aio, errors, exporting, importing
 
 
-def test_a_store_that_has_to_be_there(path: Path) -> None:
+def test_a_store_that_has_to_be_there(path: Path, backend: str) -> None:
     with pytest.raises(errors.NoStoreError) as missing:
         summarystore.open(path, existing=True)
     assert isinstance(missing.value, FileNotFoundError) and isinstance(missing.value, errors.StoreFileError)
@@ -32,7 +32,7 @@ def test_a_store_that_has_to_be_there(path: Path) -> None:
         assert [stream.name for stream in store.list()] == ["a"]
 
 
-def test_no_store_is_made_by_looking(path: Path, folder: Path) -> None:
+def test_no_store_is_made_by_looking(path: Path, folder: Path, backend: str) -> None:
     (folder / "a.csv").write_text("1764406800,1\n")
     assert exporting.main([str(path), "a", "--windows"]) == 3
     assert importing.main([str(path), str(folder / "a.csv"), "--dry-run", "--quiet"]) == 0

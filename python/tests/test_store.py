@@ -51,7 +51,7 @@ def test_series_and_frames(seven: Store) -> None:
     assert exact["mid"][10] == Decimal("2.75")
 
 
-def test_frames_of_an_hour_that_a_clock_shows_twice(path: Path) -> None:
+def test_frames_of_an_hour_that_a_clock_shows_twice(path: Path, backend: str) -> None:
     """Each row has its own time in pandas, too, as it has in its datetime."""
     starts = [f"2026-10-25T0{hour}:{minute}Z" for hour in range(3) for minute in ("00", "30")]
     with summarystore.open(path, zone="Europe/Berlin") as store:
@@ -250,7 +250,7 @@ def test_drop_and_check(seven: Store) -> None:
     assert seven.check().streams == 0 and not seven.list()
 
 
-def test_opening_again(path: Path) -> None:
+def test_opening_again(path: Path, backend: str) -> None:
     with Store(path) as first:
         first.create("a", "exp 2 1 1")
         first.append_many("a", SEVEN)

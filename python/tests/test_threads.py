@@ -114,7 +114,7 @@ def test_an_iterator_shows_the_windows_as_they_were(plain: Store) -> None:
             plain.windows("b")
 
 
-def test_closing_waits_for_what_is_under_way(path: Path) -> None:
+def test_closing_waits_for_what_is_under_way(path: Path, backend: str) -> None:
     store = Store(path)
     store.create("a", "exp 2 1 1")
     begun = threading.Event()

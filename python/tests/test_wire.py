@@ -18,7 +18,7 @@ def test_commands() -> None:
     assert wire.create("a", "exp 2 1 1") == "create a exp 2 1 1"
     assert wire.create("a", ("power", 1, 1, 4, 1), 60) == "create a power 1 1 4 1 within 60"
     assert wire.tagged(3, [wire.append("a", 10, -5), wire.LIST]) == b"@3 append a 10 -5\n@3 list\n"
-    assert wire.appends(7, "a", [(1, 2), (3, -4)]) == b"@7 append a 1 2\n@7 append a 3 -4\n"
+    assert wire.readings("a", [(1, 2), (3, -4)]).lines(7) == b"@7 append a 1 2\n@7 append a 3 -4\n"
 
 
 @pytest.mark.parametrize("name", ["", "a b", "a\n@0 drop b", "a\tb", "a\r", "é", "a\0b"])
@@ -32,7 +32,7 @@ def test_a_number_is_whole(value: object) -> None:
     with pytest.raises(NumberError):
         wire.whole(value)
     with pytest.raises(NumberError):
-        wire.appends(0, "a", cast("list[tuple[int, int]]", [(1, value)]))
+        wire.readings("a", cast("list[tuple[int, int]]", [(1, value)]))
 
 
 @pytest.mark.parametrize("text,interval", [
@@ -67,7 +67,7 @@ def fed(pipeline: Pipeline, text: bytes, size: int) -> None:
 def test_replies_in_pieces_of_any_size(size: int) -> None:
     pipeline = Pipeline()
     first = Commands(1, ["append a 1 1", "series a sum 0 9 5", "list"])
-    many = Appends(0, wire.appends(0, "a", [(t, t) for t in range(20)]), list(range(20)))
+    many = Appends(0, wire.readings("a", [(t, t) for t in range(20)]), list(range(20)))
     last = Commands(2, ["drop a"])
     for request in (first, many, last):
         pipeline.add(request)
@@ -85,7 +85,7 @@ def test_replies_in_pieces_of_any_size(size: int) -> None:
 ])
 def test_what_is_no_reply(text: bytes) -> None:
     pipeline = Pipeline()
-    pipeline.add(Appends(0, wire.appends(0, "a", [(1, 1), (2, 2)]), [1, 2]))
+    pipeline.add(Appends(0, wire.readings("a", [(1, 1), (2, 2)]), [1, 2]))
     with pytest.raises(ProtocolError):
         pipeline.received(text)
 
@@ -93,7 +93,7 @@ def test_what_is_no_reply(text: bytes) -> None:
 def test_pieces_are_whole_lines_that_a_pipe_takes_at_once() -> None:
     pipeline = Pipeline()
     rows = [(t, -t) for t in range(10**18, 10**18 + 1000)]
-    request = Appends(0, wire.appends(0, "a" * 32, rows), rows)
+    request = Appends(0, wire.readings("a" * 32, rows), rows)
     pipeline.add(request)
     pipeline.add(Commands(1, ["list"]))
     written = []
@@ -122,7 +122,7 @@ def test_a_line_that_is_too_long_has_no_session() -> None:
 def test_what_was_in_flight() -> None:
     pipeline = Pipeline()
     rows = list(range(400))
-    many = Appends(0, wire.appends(0, "a", [(t, t) for t in rows]), rows)
+    many = Appends(0, wire.readings("a", [(t, t) for t in rows]), rows)
     pipeline.add(many)
     pipeline.add(Commands(1, ["drop a"]))
     piece = pipeline.next_write()

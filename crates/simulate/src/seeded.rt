@@ -1,8 +1,9 @@
 // Stories that look random, with faults and crashes.
-use crate::images::{Left, image_of};
+use crate::images::{Left, disk_of, image_of};
 use crate::noted::Noted;
 use crate::prefixes::{shown_on, stands};
 use crate::random::Random;
+use crate::runs::{run_on, whole};
 use crate::stories::story_by;
 use crate::story::Story;
 use crate::trials::{
@@ -32,6 +33,18 @@ fn left_by(random: &mut Random) -> Left<'static> {
     }
 }
 
+// A call of an opening of a file: any one, or one close before a sync, where what was written last may still be lost.
+fn call_by(alloc: Global, image: &[u8], random: &mut Random) -> Result<u64, AllocError> {
+    let mut disk = disk_of(alloc, image)?;
+    let _ = run_on(alloc, "", &mut disk, whole(&[], 4096))?;
+    if random.below(2) == 0 {
+        return Ok(random.below(disk.calls()));
+    }
+    let k = random.below(disk.syncs().len() as u64) as usize;
+    let sync = disk.syncs().get(k).copied().unwrap_or(0);
+    Ok(sync.saturating_sub(random.below(3)))
+}
+
 // What is wrong after a run, of one crash, or of an opening that crashes too.
 fn wrong_of_crash(
     alloc: Global,
@@ -49,7 +62,7 @@ fn wrong_of_crash(
     if random.below(2) == 0 {
         return Ok(None);
     }
-    let call = random.below(40);
+    let call = call_by(alloc, &image, random)?;
     wrong_of_opening(alloc, story, right, &image, call, left_by(random))
 }
 
@@ -66,8 +79,9 @@ fn start_again(
     disk: &mut Noted<MemDisk>,
     random: &mut Random,
 ) -> Result<(), AllocError> {
-    let call = disk.calls().saturating_add(random.below(60));
-    disk.device_mut().stop_from(call);
+    let call = call_by(alloc, disk.device().content(), random)?;
+    let made = disk.calls();
+    disk.device_mut().stop_from(made.saturating_add(call));
     if is_ready(disk) {
         let _ = shown_on(alloc, disk, &story.asks)?;
     }

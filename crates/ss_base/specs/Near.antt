@@ -1,5 +1,5 @@
 -- Numbers of which sums and products are within 128 bits.
-use Rattle.std.specs.Prelude.{ℕ, ◌^◌, ◌<◌, ℤ, unsigned_abs}
+use Rattle.std.specs.Prelude.{◌^◌, ◌<◌, ℤ, unsigned_abs}
 
 -- far within 128 bits
 abbrev pub IsNear : ℤ → Type 0

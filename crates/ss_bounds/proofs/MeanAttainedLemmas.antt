@@ -1,6 +1,6 @@
 -- How many values of a split window attain an end of a mean: what the code finds, and what it means.
-use Rattle.std.specs.Prelude.{◌≡◌, ◌⊎◌, ℕ, zero, suc, ◌+◌, ◌-◌, ◌<◌, ◌≤◌, Bool, true, false, ◌&&◌, if◌then◌else◌, ℤ, ◌≤ℤ◌, int_le}
-use Rattle.std.specs.Prelude.{List, [], ◌∷◌, Option, None, Some, IfSome}
+use Rattle.std.specs.Prelude.{◌≡◌, ◌⊎◌, ℕ, zero, suc, ◌+◌, ◌-◌, ◌<◌, ◌≤◌, Bool, true, false, ◌&&◌, if◌then◌else◌, ℤ}
+use Rattle.std.specs.Prelude.{List, ◌∷◌, Option, None, Some, IfSome}
 use Rattle.std.specs.Option.{option_map}
 use Rattle.std.proofs.Common.{ap, arith, inl, inr, refl, subst, sym, ◌∙◌}
 use Rattle.std.proofs.lemmas.Bool.{cases_lt, false≢true}
@@ -11,7 +11,7 @@ use Rattle.ss_bounds.specs.declared.side.Side.{Side}
 use Rattle.ss_bounds.specs.declared.side.Side.TheVariants as side
 use Rattle.ss_bounds.specs.Corners.{AreCorners, AreCornersOf, AreSame, best_of_corners, order_of, sum_at}
 use Rattle.ss_bounds.specs.Extremes.{listed}
-use Rattle.ss_bounds.specs.Fractions.{IsAtMost, at_most, at_least, lowest}
+use Rattle.ss_bounds.specs.Fractions.{IsAtMost, at_most, lowest}
 use Rattle.ss_bounds.specs.Guess.{AreAllSplit}
 use Rattle.ss_bounds.specs.MeanAttained.{attains, first_corner, first_passing, greatest_mean_at, is_same_mean, least_mean_at, sooner}
 use Rattle.ss_bounds.specs.Means.{AddsUpTo, best_mean, greatest_mean, least_mean, so_many, with_values}
@@ -20,7 +20,8 @@ use Rattle.ss_bounds.proofs.BestLemmas.{AreAllSplit-ordered, AreOrdered, IsBest,
 use Rattle.ss_bounds.proofs.CornerLemmas.{AreSame-lowest, AtCorners, found-at}
 use Rattle.ss_bounds.proofs.FractionLemmas.{IsAtMost-IsSame, IsOrder, IsOrder-at_least, IsOrder-at_most, IsSame-both, IsSame-sym, IsSame-trans}
 use Rattle.ss_bounds.proofs.MeanTruthLemmas.{as-many}
-use Rattle.ss_bounds.proofs.ReachedLemmas.{IsAttained, IsLevel, IsLevel-at_least, IsLevel-at_most, all-best, attained-sooner, best_with, of_all, some-attained, with-best}
+use Rattle.ss_bounds.proofs.ReachedLemmas.{IsAttained, IsLevel, IsLevel-at_least, IsLevel-at_most, all-best, attained-sooner}
+use Rattle.ss_bounds.proofs.ReachedLemmas.{best_with, of_all, some-attained, with-best}
 
 -- ---- the search
 
@@ -104,7 +105,8 @@ module _ (test : Fraction → Bool) (c : Corners) where
       → (test c.before ≡ true → P c.before.under) → (test c.after ≡ true → P c.after.under) → P (first_corner test c)
   first_corner-some P most fewest some before after =
       sooner-some P (test c.fewest) c.fewest early
-      (sooner-some P (test c.some) c.some middle (sooner-some P (test c.before) c.before last (sooner-some P (test c.after) c.after c.most.under most after) before) some)
+      (sooner-some P (test c.some) c.some middle
+      (sooner-some P (test c.before) c.before last (sooner-some P (test c.after) c.after c.most.under most after) before) some)
       fewest
 
 -- ---- means that are the same number
@@ -259,7 +261,8 @@ listed-first s None = refl
 listed-first s (Some t) = refl
 
 module _ (side : Side) {Better : Fraction → Fraction → Type 0} (order : IsOrder (order_of side) Better) (level : IsLevel Better) (known : Fraction)
-    (s : SplitFigures) (t : Option SplitFigures) (c : Corners) (d : Option Corners) (first : AreCornersOf side (Some s) (Some c)) (second : AreCornersOf side t d) where
+    (s : SplitFigures) (t : Option SplitFigures) (c : Corners) (d : Option Corners)
+    (first : AreCornersOf side (Some s) (Some c)) (second : AreCornersOf side t d) where
   abbrev rest : List SplitFigures
   rest = listed None t
 
@@ -291,7 +294,8 @@ module _ (side : Side) {Better : Fraction → Fraction → Type 0} (order : IsOr
       (same-decided (with_corner v) at_corners (AreSame-proper (some v) (with_corner v) (with-found v)).1 (AreSame-proper every at_corners all-found).1 is)
       (AreSame-sym every at_corners all-found)))
       (λ v same. decided-same (with_corner v) at_corners
-      (AreSame-trans (with_corner v) (some v) at_corners (AreSame-sym (some v) (with_corner v) (with-found v)) (AreSame-trans (some v) every at_corners same all-found)))
+      (AreSame-trans (with_corner v) (some v) at_corners (AreSame-sym (some v) (with_corner v) (with-found v))
+      (AreSame-trans (some v) every at_corners same all-found)))
 
 pub computed-least : (known : Fraction) (s : SplitFigures) (t : Option SplitFigures) (c : Corners) (d : Option Corners)
     → AreCornersOf side.Least (Some s) (Some c) → AreCornersOf side.Least t d

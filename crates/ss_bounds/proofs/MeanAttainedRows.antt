@@ -1,5 +1,5 @@
 -- Worked rows of how many values attain an end of a mean, each computed.
-use Rattle.std.specs.Prelude.{◌≡◌, ℕ, ℤ, pos, negsuc, [], ◌∷◌, List}
+use Rattle.std.specs.Prelude.{◌≡◌, ℤ, pos, negsuc, [], ◌∷◌}
 use Rattle.std.proofs.Common.{refl}
 use Rattle.ss_bounds.specs.declared.fraction.Fraction.{Fraction}
 use Rattle.ss_bounds.specs.MeanAttained.{greatest_mean_at, least_mean_at}

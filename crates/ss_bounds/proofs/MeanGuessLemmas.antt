@@ -117,11 +117,13 @@ low-parted known v (s ∷ splits) all (x, from, to, reached) =
       together = rest.together;
     }
 
-low-HoldsMean : (known v : Fraction) (splits : List SplitFigures) → AreAllSplit splits → AddsUpTo low_sum known splits v → HoldsMean (mean_interval known splits) v
+low-HoldsMean : (known v : Fraction) (splits : List SplitFigures) → AreAllSplit splits → AddsUpTo low_sum known splits v →
+    HoldsMean (mean_interval known splits) v
 low-HoldsMean known v splits all reached =
     let parted = low-parted known v splits all reached in
     subst (HoldsMean (mean_interval known splits)) parted.together
-    (subst (λ l. HoldsMean (mean_interval known l) (all_together known parted.windows)) parted.figures (mean_interval-HoldsMean known parted.windows parted.may))
+    (subst (λ l. HoldsMean (mean_interval known l) (all_together known parted.windows)) parted.figures
+    (mean_interval-HoldsMean known parted.windows parted.may))
 
 abbrev pub AreInOrder : Mean → Type 0
 AreInOrder Nothing = Unit {0}

@@ -1,5 +1,5 @@
 -- The first number of values of a split window with which the best mean is attained: it is found at a corner.
-use Rattle.std.specs.Prelude.{◌≡◌, ◌⊎◌, ℕ, ◌+◌, ◌-◌, ◌<◌, ◌≤◌, min, max, Bool, ℤ, pos, ◌+ℤ◌, ◌-ℤ◌, ◌*ℤ◌}
+use Rattle.std.specs.Prelude.{◌≡◌, ℕ, ◌+◌, ◌-◌, ◌<◌, ◌≤◌, min, max, Bool, ℤ, pos, ◌-ℤ◌, ◌*ℤ◌}
 use Rattle.std.specs.Prelude.{List, ◌∷◌, Option, None, Some}
 use Rattle.std.proofs.Common.{ap, arith, inl, inr, refl, subst, sym, ◌∙◌}
 use Rattle.std.proofs.lemmas.Bool.{cases_lt}
@@ -251,7 +251,8 @@ module _ {test : Fraction → Fraction → Bool} {Better : Fraction → Fraction
             let few = ap (λ (v : Fraction). v.under) is.fewest in
             inl (inl (inl (
               omega arith,
-              none-with c.fewest (is.fewest ∙ ap (so_many (sum s)) (sym few)) (omega arith) (omega (arith, is.order)) best (best_with c.fewest) (with-best c.fewest),
+              none-with c.fewest (is.fewest ∙ ap (so_many (sum s)) (sym few)) (omega arith) (omega (arith, is.order)) best
+                  (best_with c.fewest) (with-best c.fewest),
             )))
         sooner-by (Some m) None best one same = absurd same
         sooner-by (Some m) (Some r) best one same =

@@ -4,7 +4,7 @@ use Rattle.ss_catalog.specs.Catalog.{id_of, without_name}
 use Rattle.ss_catalog.specs.Events.{IsInTime, event_name}
 use Rattle.ss_catalog.specs.Names.{is_name}
 use Rattle.ss_catalog.specs.Params.{exp as Exp, in_range, is_step, power as Power, step_for, step_number}
-use Rattle.ss_catalog.specs.Queries.{adds_up, end_name, is_certified, is_guess, kind_name, query_verb, series_verb}
+use Rattle.ss_catalog.specs.Queries.{end_name, is_certified, is_guess, kind_name, query_verb, series_verb}
 use Rattle.ss_catalog.specs.Refusal.{refusal_name}
 use Rattle.ss_catalog.specs.Series.{IsSeriesInRange, numbers_from, row_query, rows_in, rows_of, whole_query}
 use Rattle.ss_catalog.specs.declared.TheConstants.{MOST_ROWS, MOST_STREAMS, LAST_STREAM}
@@ -90,10 +90,6 @@ params-steps_for = refl
 kinds : map kind_name (Count ∷ Sum ∷ Min ∷ Max ∷ Mean ∷ CountGuess ∷ SumGuess ∷ MeanGuess ∷ [])
     ≡ codes "count" ∷ codes "sum" ∷ codes "min" ∷ codes "max" ∷ codes "mean" ∷ codes "count" ∷ codes "sum" ∷ codes "mean" ∷ []
 kinds = refl
-
-kinds-add_up : map adds_up (Count ∷ Sum ∷ Min ∷ Max ∷ Mean ∷ CountGuess ∷ SumGuess ∷ MeanGuess ∷ [])
-    ≡ true ∷ true ∷ false ∷ false ∷ false ∷ false ∷ false ∷ false ∷ []
-kinds-add_up = refl
 
 kinds-certified : map is_certified (Count ∷ Sum ∷ Min ∷ Max ∷ Mean ∷ Has (pos 5) ∷ CountGuess ∷ SumGuess ∷ MeanGuess ∷ [])
     ≡ true ∷ true ∷ false ∷ false ∷ true ∷ false ∷ false ∷ false ∷ false ∷ []

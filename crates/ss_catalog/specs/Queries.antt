@@ -39,18 +39,6 @@ query_verb kind = if is_guess kind then codes "estimate" else codes "query"
 abbrev pub series_verb : Kind → List ℕ
 series_verb kind = if is_guess kind then codes "estimates" else codes "series"
 
--- what is asked for adds up: of all values it is what it is of some and of the others, added
-abbrev pub adds_up : Kind → Bool
-adds_up Count = true
-adds_up Sum = true
-adds_up Min = false
-adds_up Max = false
-adds_up Mean = false
-adds_up (Has value) = false
-adds_up CountGuess = false
-adds_up SumGuess = false
-adds_up MeanGuess = false
-
 -- there are certificates of the answers: of what adds up, and of means, which are made of two that do
 abbrev pub is_certified : Kind → Bool
 is_certified Count = true

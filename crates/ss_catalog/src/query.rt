@@ -1,6 +1,6 @@
 // What is asked of a stream.
 ghost use Rattle.std.specs.Prelude.{◌≡◌};
-ghost use Rattle.ss_catalog.specs.Queries.{adds_up, end_name, is_certified, is_guess, kind_name, series_verb};
+ghost use Rattle.ss_catalog.specs.Queries.{end_name, is_certified, is_guess, kind_name, series_verb};
 
 use crate::Name;
 
@@ -58,13 +58,6 @@ impl Kind {
         ensures { result ≡ is_guess self }
     {
         matches!(self, Kind::CountGuess | Kind::SumGuess | Kind::MeanGuess)
-    }
-
-    /// Whether it adds up: what is asked for of all values is the sum of what it is of some and of the others.
-    pub fn adds_up(self) -> bool
-        ensures { result ≡ adds_up self }
-    {
-        matches!(self, Kind::Count | Kind::Sum)
     }
 
     /// Whether there are certificates of its answers.

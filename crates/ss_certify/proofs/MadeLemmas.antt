@@ -1,5 +1,6 @@
 -- The evidence that is made shows the end that is asked for.
-use Rattle.std.specs.Prelude.{◌≡◌, ℕ, zero, suc, ◌+◌, ◌-◌, ◌<◌, ◌≤◌, Bool, true, false, ℤ, pos, ◌+ℤ◌, ◌-ℤ◌, ◌≤ℤ◌, List, [], ◌∷◌, ◌++◌, map, Contains, Option, None, Some, IfSome}
+use Rattle.std.specs.Prelude.{◌≡◌, ℕ, zero, suc, ◌+◌, ◌-◌, ◌<◌, ◌≤◌, Bool, true, false, ℤ, pos, ◌+ℤ◌, ◌-ℤ◌, ◌≤ℤ◌, List, []}
+use Rattle.std.specs.Prelude.{◌∷◌, ◌++◌, map, Contains, Option, None, Some, IfSome}
 use Rattle.std.specs.Option.{option_map}
 use Rattle.std.proofs.Common.{ap, arith, inl, inr, refl, sym, ◌∙◌}
 use Rattle.std.proofs.lemmas.Int.{ints}
@@ -31,7 +32,6 @@ use Rattle.ss_certify.specs.Fill.{Fills, RiseBetween, fill}
 use Rattle.ss_certify.specs.Made.{attaining, certificate_of, certificate_with, certificates_of, evidence_of, inside_sum}
 use Rattle.ss_certify.specs.Runs.{HaveValues, values_of_runs}
 use Rattle.ss_certify.specs.declared.evidence.Answer.TheVariants as answers
-use Rattle.ss_certify.specs.declared.evidence.Cert.{Cert}
 use Rattle.ss_certify.proofs.BetweenLemmas.{between-append}
 use Rattle.ss_certify.proofs.FillLemmas.{Fills-fill, greatest-fill, least-fill}
 use Rattle.ss_certify.proofs.RunLemmas.{total-append}

@@ -1,5 +1,5 @@
 -- Worked rows of the evidence for an end of a mean, each computed from the windows and landmarks of a stream.
-use Rattle.std.specs.Prelude.{◌≡◌, pos, negsuc, List, [], ◌∷◌, map, None, Some, codes}
+use Rattle.std.specs.Prelude.{◌≡◌, pos, negsuc, [], ◌∷◌, map, None, Some, codes}
 use Rattle.std.proofs.Common.{refl}
 use Rattle.std.specs.Fmt.{digits}
 use Rattle.ss_bounds.specs.Fractions.{lowest}
@@ -8,7 +8,7 @@ use Rattle.ss_catalog.specs.declared.query.End.TheVariants.{Lo, Hi}
 use Rattle.ss_catalog.specs.declared.query.Kind.TheVariants.{Mean}
 use Rattle.ss_model.specs.State.{Stream}
 use Rattle.ss_report.specs.Text.{reply_line}
-use Rattle.ss_certify.specs.Fill.{fill, run}
+use Rattle.ss_certify.specs.Fill.{fill}
 use Rattle.ss_certify.specs.Told.{told}
 use Rattle.ss_certify.specs.declared.evidence.Answer.TheVariants as answers
 use Rattle.ss_certify.proofs.MadeRows.{ended, evidence, made, readings, stream, window}

@@ -198,7 +198,8 @@ MayBeAnswer-least =
     MayBeAnswer-answer (state history) (query kinds.Sum 10 25) readings Lo (evidence (negsuc 4) nothing (least ∷ [])) refl IsEvidence-least
 
 -- from 10 to 40 the first window lies whole in the range: its 4 values are known, and nothing else is to be shown
-IsEvidence-whole : IsEvidence kinds.Count Lo (seen_of kinds.Count 10 40 readings) (record { answer = answers.Count 4; known = record { over = pos 11; under = 4 }; certs = record { items = [] } })
+IsEvidence-whole : IsEvidence kinds.Count Lo (seen_of kinds.Count 10 40 readings)
+    (record { answer = answers.Count 4; known = record { over = pos 11; under = 4 }; certs = record { items = [] } })
 IsEvidence-whole = record {
   certificates = tt;
   known = refl;

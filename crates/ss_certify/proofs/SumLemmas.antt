@@ -1,6 +1,6 @@
 -- What the code computes of sums is these sums.
 use Rattle.std.specs.Prelude.{◌≡◌, ℕ, ◌-◌, ℤ, pos, ◌-ℤ◌, ◌*ℤ◌, ◌≤ℤ◌, FitsSigned}
-use Rattle.std.proofs.Common.{ap, ap₂, arith, subst, sym, ◌∙◌}
+use Rattle.std.proofs.Common.{ap, ap₂, arith, subst, sym}
 use Rattle.std.proofs.lemmas.Int.{ints, to_z-of_z}
 use Rattle.std.specs.Int.{w64, w128}
 use Rattle.ss_bounds.specs.Parted.{CanBeParted}

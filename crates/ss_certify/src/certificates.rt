@@ -48,7 +48,7 @@ pub fn make<D: Disk>(
     Ok(evidence(&seen, query.kind, end))
 }
 
-/// Checks any evidence for an end of the answer to a query of count or sum: whether each window that the range splits has a
+/// Checks any evidence for an end of the answer to a query of count, sum or mean: whether each window that the range splits has a
 /// certificate of values that it may have had, and these with what is known give exactly this end. Refusals and faults are those of `Store::ask`, and
 /// it leaves the disk and the store as that does. It takes no memory.
 pub fn check<D: Disk>(

@@ -1,5 +1,6 @@
 -- A command that a line means is one that a line can say.
-use Rattle.std.proofs.Common.{◌≡◌, ℕ, suc, zero, ◌-◌, ◌^◌, ◌<◌, ◌≤◌, true, false, not, Bool, List, [], ◌∷◌, length, Ok, Err, None, Option, Some, Result, subst, refl}
+use Rattle.std.proofs.Common.{◌≡◌, ℕ, suc, zero, ◌-◌, ◌^◌, ◌<◌, ◌≤◌, true, false, not, Bool, List, [], ◌∷◌, length, Ok, Err}
+use Rattle.std.proofs.Common.{None, Option, Some, Result, subst, refl}
 use Rattle.std.proofs.Common.{arith, nat_lt, if◌then◌else◌}
 use Rattle.std.proofs.lemmas.Bool.Decides.{nat_tests}
 use Rattle.std.specs.Option.{option_map_or, unwrap_or}

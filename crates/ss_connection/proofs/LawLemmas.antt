@@ -20,7 +20,7 @@ use Rattle.ss_program.proofs.Common.{KnowsNow, LeavesOnly, RecordsState, StandsF
 use Rattle.ss_program.proofs.Common.{plain_talk, text_of, report, reply_line, Reply, Command, meaning, LINE_END, replies, meaning_brings}
 use Rattle.ss_program.proofs.AnswerLemmas.{question-event}
 use Rattle.ss_program.proofs.Common.{Brought, Err, Happened, added, history_after, line_text, take}
-use Rattle.ss_program.proofs.SessionLemmas.{text_of-replies}
+use Rattle.ss_program.proofs.ReportLemmas.{text_of-replies}
 use Rattle.ss_program.specs.declared.answer.Question.{Question}
 use Rattle.ss_program.specs.declared.rows.Rows.{Rows}
 use Rattle.ss_program.specs.declared.status.Status.{Status}

@@ -16,7 +16,7 @@ ghost use Rattle.ss_outside.specs.Crash.{LeavesOnly};
 ghost use Rattle.ss_program.specs.Answer.{question_command};
 ghost use Rattle.ss_program.specs.Held.{StandsForFirst};
 ghost use Rattle.ss_program.specs.Line.{History, brings, command_brings, line_text, the_event};
-ghost use Rattle.ss_program.specs.Session.{accepted, report};
+ghost use Rattle.ss_program.specs.Report.{accepted, report};
 ghost use Rattle.ss_program.specs.Talk.{plain_talk};
 ghost use Rattle.ss_program.specs.declared.answer.Question.{Question};
 ghost use Rattle.ss_program.specs.declared.rows.Rows.{Rows};

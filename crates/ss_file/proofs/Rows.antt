@@ -31,7 +31,8 @@ use Rattle.ss_file.specs.declared.system.Lock.TheVariants.{Exclusive, Shared}
 use Rattle.ss_file.specs.declared.system.Stream.TheVariants.{Output}
 
 facts : List Fact
-facts = Unmade ∷ Unwritten ∷ OpenFor Make ∷ Apart ∷ LockedBy Shared ∷ RegularFile ∷ Synced ∷ Unsyncable ∷ Durable ∷ Absent ∷ Found Pipe ∷ GoesInto Output ∷ InUse ∷ FolderOpen ∷ []
+facts = Unmade ∷ Unwritten ∷ OpenFor Make ∷ Apart ∷ LockedBy Shared ∷ RegularFile ∷ Synced ∷ Unsyncable ∷ Durable ∷ Absent ∷ Found Pipe ∷ GoesInto Output ∷
+    InUse ∷ FolderOpen ∷ []
 
 -- what each call leaves
 lasts_open-Make :

@@ -1,5 +1,5 @@
 -- What the file of a store was opened as.
-use Rattle.std.specs.Prelude.{◌≡◌, ◌⊎◌, ◌≤◌, ℕ, List, [], ◌∷◌, codes, if◌then◌else◌, slice_index, Bool, true, false}
+use Rattle.std.specs.Prelude.{◌≡◌, ◌⊎◌, ◌≤◌, ℕ, List, [], slice_index, Bool, true, false}
 use Rattle.std.specs.Prelude.{IsTrue, Option, Some, None, ⊤}
 use Rattle.ss_journal.specs.Format.{is_unborn}
 use Rattle.ss_journal.specs.declared.format.TheConstants.{FIRST_SLOT}

@@ -12,8 +12,8 @@ use Rattle.ss_file.specs.declared.system.Stream.{Stream}
 
 -- What is known of the system and of the file that is open: nothing was made, nothing was written, what it was opened for, that
 -- no standard stream goes into it, how it is locked, that it is a regular file, that what it holds was synced or can't be, that its
--- folder is open, and that its name was made durable after it. And what keeps a file from being used: nothing has the path, of which kind what was found is, which standard
--- stream goes into it, and that another opening has a lock that keeps this one away.
+-- folder is open, and that its name was made durable after it. And what keeps a file from being used: nothing has the path, of which
+-- kind what was found is, which standard stream goes into it, and that another opening has a lock that keeps this one away.
 pub data Fact : Type 0 where
   Unmade : Fact
   Unwritten : Fact

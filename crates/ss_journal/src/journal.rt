@@ -43,10 +43,26 @@ impl Model for Journal {
 
     ghost Value = { JournalState };
 
-    ghost view = { λ s. record { phase = s.phase; extent = s.extent; in_use = s.in_use; waiting = s.waiting; sealed = s.sealed; staged = s.staged; kind = s.kind } };
+    ghost view = { λ s. record {
+      phase = s.phase;
+      extent = s.extent;
+      in_use = s.in_use;
+      waiting = s.waiting;
+      sealed = s.sealed;
+      staged = s.staged;
+      kind = s.kind;
+    } };
 
     ghost invariant = { λ s.
-        IsBounded (record { phase = s.phase; extent = s.extent; in_use = s.in_use; waiting = s.waiting; sealed = s.sealed; staged = s.staged; kind = s.kind }) };
+        IsBounded (record {
+          phase = s.phase;
+          extent = s.extent;
+          in_use = s.in_use;
+          waiting = s.waiting;
+          sealed = s.sealed;
+          staged = s.staged;
+          kind = s.kind;
+        }) };
 }
 
 impl Journal {

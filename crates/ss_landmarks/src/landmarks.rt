@@ -58,7 +58,8 @@ fn one_open(current: &Option<Opened>) -> usize
 }
 
 impl Landmarks {
-    ghost use Rattle.std.specs.Prelude.{◌≡◌, ◌+◌, ◌<◌, ◌≤◌, ◌↔◌, FitsSigned, [], ◌∷◌, ◌++◌, length, map, slice_get, take, drop, max, option_map, IsNone, OnOk, Some};
+    ghost use Rattle.std.specs.Prelude.{◌≡◌, ◌+◌, ◌<◌, ◌≤◌, ◌↔◌, FitsSigned, [], ◌∷◌, ◌++◌, length, map, slice_get, take};
+    ghost use Rattle.std.specs.Prelude.{drop, max, option_map, IsNone, OnOk, Some};
     ghost use Rattle.std.specs.Int.{w64};
     ghost use Rattle.std.specs.List.{All};
     ghost use Rattle.ss_landmarks.specs.Free.{free};

@@ -15,7 +15,6 @@ use Rattle.ss_fields.specs.Fields as Numbers
 use Rattle.ss_journal.specs.Checks as Checks
 use Rattle.ss_journal.specs.Entries as Entries
 use Rattle.ss_journal.specs.declared.put.Put.{Put}
-use Rattle.ss_checksum.specs.Changes.{AreAsLong}
 use Rattle.ss_laws.specs.Damage.{AreOddBits, AreTwoBits, in_entry, in_slot, IsBurst, is_entry, read_from}
 
 -- the stream `a` with the target `exp 2 1 1` and the number 0, in slot 7: its kind, what stands behind it, and its check

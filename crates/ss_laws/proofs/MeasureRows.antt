@@ -340,7 +340,8 @@ unfolding window_index
 records-one_minute = refl
 
 -- three values of one target window in three minutes need four, and one minute more one more
-records-three_minutes : map (λ (values : List Point). records_of (record one { windows = windows (record within_minutes { lengths = power_length 1 0 1 4 }) values }))
+records-three_minutes : map (λ (values : List Point).
+    records_of (record one { windows = windows (record within_minutes { lengths = power_length 1 0 1 4 }) values }))
     (take 3 apart ∷ apart ∷ []) ≡ (2 * 1 + 3 - 1) ∷ (2 * 1 + 4 - 1) ∷ []
 unfolding window_index power_length
 records-three_minutes = refl

@@ -1,5 +1,5 @@
 -- How many records whole stores need, and that no event is refused for want of one while there are fewer than a store has.
-use Rattle.std.proofs.Common.{◌≡◌, ◌≢◌, ◌∙◌, ℕ, ◌+◌, ◌-◌, ◌*◌, ◌^◌, ◌<◌, ◌≤◌, Bool, true, false, List, [], ◌∷◌, None, Some, ap, arith, length, map, refl}
+use Rattle.std.proofs.Common.{◌≡◌, ◌≢◌, ℕ, ◌+◌, ◌-◌, ◌*◌, ◌^◌, ◌<◌, ◌≤◌, Bool, true, false, List, [], ◌∷◌, None, Some, arith, length}
 use Rattle.std.proofs.Common.{not, subst, sym}
 use Rattle.std.proofs.Math.Nat.{le_trans, mul-le-mul_left, suc-mul}
 use Rattle.std.proofs.lemmas.Bool.Decides.{nat_tests}

@@ -26,7 +26,8 @@ amounts-figures : (splits : List (SplitFigures × List ℤ)) → figures_alone (
 amounts-figures [] = refl
 amounts-figures (w ∷ ws) = ap (λ l. w.0 ∷ l) (amounts-figures ws)
 
-amounts-together : (known : Fraction) (splits : List (SplitFigures × List ℤ)) → all_together known (amounts splits) ≡ with_values known (amount (values_of_all splits))
+amounts-together : (known : Fraction) (splits : List (SplitFigures × List ℤ)) →
+    all_together known (amounts splits) ≡ with_values known (amount (values_of_all splits))
 amounts-together known [] = fraction-is known (with_values known (amount [])) (omega (arith, ints)) (omega arith)
 amounts-together known (w ∷ ws) =
     let more = with_values known (amount w.1) in

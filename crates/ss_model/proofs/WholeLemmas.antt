@@ -2,7 +2,8 @@
 use Rattle.ss_model.proofs.Common.{◌≡◌, ℕ, suc, ◌+◌, ◌-◌, ◌*◌, ◌/◌, ◌<◌, ◌≤◌, false, List, [], ◌∷◌, refl, ap, sym, ◌∙◌, subst, arith, None, Some, inl, inr}
 use Rattle.ss_model.proofs.Common.{IfSome, All, Option, ◌||◌, nat_le, nat_lt, filter, option_map_or, div-mul-le_self, cases_lt, eqb-true, nat_tests, All-head}
 use Rattle.ss_model.proofs.Common.{All-tail, All-nil, All-cons, step_number, row_query, Query, Series, IsExactOutcome, outcome_of, split_by, IsInStep}
-use Rattle.ss_model.proofs.Common.{is_split, IsState, IsStream, Stream, stream_named, AreWholeSteps, HasWholeRows, IsWithin, reached_in, reached_by, Outcome, Window}
+use Rattle.ss_model.proofs.Common.{is_split, IsState, IsStream, Stream, stream_named, AreWholeSteps, HasWholeRows, IsWithin}
+use Rattle.ss_model.proofs.Common.{reached_in, reached_by, Outcome, Window}
 use Rattle.ss_model.proofs.Common.{AreWindows, StandFrom, newest_time}
 use Rattle.ss_base.specs.declared.limits.TheConstants.{LAST_TIME}
 use Rattle.std.specs.Prelude.{◌⊎◌}
@@ -162,7 +163,8 @@ whole-unsplit streams query step state within whole =
     (λ s found. All-named IsStream query.name streams s state.each found) within whole
 
 pub whole-exact : (streams : List Stream) (query : Query) (step : ℕ) (outcome : Outcome) → IsState streams →
-    IsWithin step streams query.name → AreWholeSteps step (reached_by streams query.name) query.from query.to → outcome_of streams query ≡ Some outcome → IsExactOutcome outcome
+    IsWithin step streams query.name → AreWholeSteps step (reached_by streams query.name) query.from query.to → outcome_of streams query ≡ Some outcome →
+    IsExactOutcome outcome
 whole-exact streams query step outcome state within whole answered =
     answer-exact streams query outcome answered (whole-unsplit streams query step state within whole)
 
@@ -195,7 +197,8 @@ whole-row step newest series row whole = record {
 }
 
 pub whole-rows : (streams : List Stream) (series : Series) (step row : ℕ) (outcome : Outcome) → IsState streams →
-    IsWithin step streams series.name → HasWholeRows step (reached_by streams series.name) series → outcome_of streams (row_query series row) ≡ Some outcome → IsExactOutcome outcome
+    IsWithin step streams series.name → HasWholeRows step (reached_by streams series.name) series →
+    outcome_of streams (row_query series row) ≡ Some outcome → IsExactOutcome outcome
 whole-rows streams series step row outcome state within whole answered =
     whole-exact streams (row_query series row) step outcome state within
     (whole-row step (reached_by streams series.name) series row whole) answered

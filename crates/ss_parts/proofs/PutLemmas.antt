@@ -147,7 +147,8 @@ filter-beside p (e ∷ es) all = rw (all.0, filter-beside p es all.1) refl
 filled-beside : (bytes : ℕ → List ℕ) (p : ℕ) (slots : List ℕ) → AllByRecursion (λ slot. nat_eq slot p ≡ false) slots →
     AllByRecursion (λ e. nat_eq e.0 p ≡ false) (filled bytes slots)
 filled-beside bytes p slots all =
-    all_weaker (IsFilled bytes (λ slot. nat_eq slot p ≡ false)) _ (λ e is. is.0) (filled bytes slots) (filled-all bytes (λ slot. nat_eq slot p ≡ false) slots all)
+    all_weaker (IsFilled bytes (λ slot. nat_eq slot p ≡ false)) _ (λ e is. is.0) (filled bytes slots)
+    (filled-all bytes (λ slot. nat_eq slot p ≡ false) slots all)
 
 -- one entry among those of a map: its slot lies below the extent, isn't zeros and spells this, and the others are those beside it
 pub record IsAmong (bytes : ℕ → List ℕ) (p n : ℕ) (was : Option Record) (rest : List (ℕ × Option Record)) : Type 0 where

@@ -1,10 +1,11 @@
 -- Between two lines of a session: how it begins, how it goes on, and where a run stops.
 use Rattle.ss_program.proofs.Common.{◌≡◌, ℕ, ◌≤◌, ◌++◌, List, [], ◌∷◌, length, Option, Some, None, Result, Ok, Err, OnOk, refl, sym, ap, ◌∙◌, common_steps}
 use Rattle.ss_program.proofs.Common.{append_assoc, arith, append-nil, length-append, at_start, joined, of_content, weaker, KnowsNow, LeavesOnly, DiskView}
-use Rattle.ss_program.proofs.Common.{NothingPending, Told, shown_by, Cursors, Amid, AreOwed, GoesAmid, IsAmid, IsAtRest, TakesFurther, TakesNone, one_line_more}
-use Rattle.ss_program.proofs.Common.{owed_by, IsOpen, NoneWait, SessionState, StandsBeyond, StandsWithin, StopsIn, sealing_by, HoldsTalk, appended, after_lines}
+use Rattle.ss_program.proofs.Common.{NothingPending, Told, shown_by, Amid, AreOwed, GoesAmid, IsAmid, IsAtRest, TakesFurther, TakesNone, one_line_more}
+use Rattle.ss_program.proofs.Common.{owed_by, IsOpen, NoneWait, InputRunState, StandsBeyond, StandsWithin, StopsIn, sealing_by}
+use Rattle.ss_program.proofs.Common.{HoldsTalk, appended, after_lines}
 use Rattle.ss_program.proofs.Common.{text_of, Talk, Sealing, Each, Shared, Seals, Status}
-use Rattle.ss_program.proofs.SessionLemmas.{after_lines-append, moments-more, text_of-append}
+use Rattle.ss_program.proofs.ReportLemmas.{after_lines-append, moments-more, text_of-append}
 use Rattle.ss_program.specs.declared.replies.Seals.TheVariants as seal
 
 -- where none wait, no line is owed anything; which tells how events come to the disk
@@ -28,7 +29,7 @@ AreOwed-more Shared None ls line few = tt
 AreOwed-more Shared (Some n) ls line few = few
 
 -- a session whose store can be called, with nothing staged, and in which no reply waits is at rest
-pub IsAtRest-ok : (result : Result (Unit {0}) Status) (disk : DiskView) (session : SessionState) → OnOk result (IsOpen disk session.store) →
+pub IsAtRest-ok : (result : Result (Unit {0}) Status) (disk : DiskView) (session : InputRunState) → OnOk result (IsOpen disk session.store) →
     OnOk result (NoneWait session.waiting) → OnOk result (IsAtRest disk session)
 IsAtRest-ok (Ok u) disk session can_be_called none = record { is_open = can_be_called; unsaid = none }
 IsAtRest-ok (Err status) disk session can_be_called none = tt

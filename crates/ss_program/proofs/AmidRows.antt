@@ -1,8 +1,8 @@
 -- What each field says of where a run stopped and of what is owed, and bounds that are false just past them.
-use Rattle.ss_program.proofs.Common.{◌≡◌, ℕ, ◌+◌, ◌<◌, ◌≤◌, ◌++◌, List, [], ◌∷◌, length, take, Option, Some, None, refl, arith, IsTrue, false, IsSealed}
+use Rattle.ss_program.proofs.Common.{◌≡◌, ℕ, ◌+◌, ◌<◌, ◌≤◌, ◌++◌, List, [], ◌∷◌, length, take, Option, Some, refl, arith, IsTrue, false, IsSealed}
 use Rattle.ss_program.proofs.Common.{DiskView, OfContent, Told, StoreIsKept, StoreState, AreOwed, IsReadyToServe, owed_by, with_text, IsOpen, IsServing}
 use Rattle.ss_program.proofs.Common.{HoldsAcked}
-use Rattle.ss_program.proofs.Common.{HoldsBy, steps_within, HoldsTalk, BeginsWithWant, HasTaken, NoneWait, SessionState, StandsBeyond, StopsAmong, sealing_by}
+use Rattle.ss_program.proofs.Common.{HoldsBy, steps_within, HoldsTalk, BeginsWithWant, HasTaken, NoneWait, InputRunState, StandsBeyond, StopsAmong, sealing_by}
 use Rattle.ss_program.proofs.Common.{appended, after_lines, text_of, Talk, turn_of, Sealing, Each, Shared, Status, OutOfMemory, steps, Cursors, TalkState}
 use Rattle.ss_program.specs.declared.replies.Seals.TheVariants as seal
 
@@ -84,7 +84,7 @@ owed-never : AreOwed Each (owed_by (seal.Shared [])).lines [] → ⊥
 owed-never owed = owed
 
 -- a session at the start of a call has no reply that waits
-module _ (sealing : Sealing) (talk : Talk) (disk : Told) (session : SessionState) (taken : List ℕ) (has : HasTaken sealing talk disk session taken) where
+module _ (sealing : Sealing) (talk : Talk) (disk : Told) (session : InputRunState) (taken : List ℕ) (has : HasTaken sealing talk disk session taken) where
   taken-unsaid : NoneWait session.waiting
   taken-unsaid = has.unsaid
 

@@ -1,5 +1,5 @@
 -- A line of a session, by what it brings.
-use Rattle.ss_program.proofs.Common.{◌⊎◌, ◌≡◌, ℕ, ◌<◌, ◌++◌, List, [], ◌∷◌, length, Option, Some, None, Result, Ok, Err, refl, sym, ap, ◌∙◌, arith, append-nil}
+use Rattle.ss_program.proofs.Common.{◌⊎◌, ◌≡◌, ℕ, ◌<◌, ◌++◌, List, [], ◌∷◌, length, Option, None, Result, Ok, Err, refl, sym, ap, ◌∙◌, arith, append-nil}
 use Rattle.ss_program.proofs.Common.{flat_map, IsTrue, OnOk, of_content, reads-none, KnowsNow, LeavesOnly, shown-sealed, DiskView, Told, RecordsState, shown_by}
 use Rattle.ss_program.proofs.Common.{said_line, Reply, TurnsHistory, StoreState, Stands, Amid, GoesAmid, IsAmid, Owed, StagesBrought, TakesNone}
 use Rattle.ss_program.proofs.Common.{TakesTurn, amid, owed_by, with_text, IsOpen, Brought, History, history_after, nothing, text_said, IsAlone, HoldsTalk}
@@ -7,7 +7,7 @@ use Rattle.ss_program.proofs.Common.{StandsAround, StandsWithin, appended, after
 use Rattle.ss_program.proofs.Common.{turn_of, Cursors, Sealing, Each, Shared, Seals, Status, OutOfMemory, TakesStarved, Step, disk_verdict}
 use Rattle.ss_program.proofs.AmidLemmas.{GoesAmid-none, Takes-next, Takes-then, said-all}
 use Rattle.ss_program.proofs.SealLemmas.{line-moments, line-owed, line-stopped}
-use Rattle.ss_program.proofs.SessionLemmas.{StopsIn-more, after_lines-push, moments-more, text_of-one, text_of-push}
+use Rattle.ss_program.proofs.ReportLemmas.{StopsIn-more, after_lines-push, moments-more, text_of-one, text_of-push}
 use Rattle.ss_program.proofs.StagingLemmas.{Turns-looked}
 use Rattle.ss_program.specs.declared.replies.Seals.TheVariants as seal
 

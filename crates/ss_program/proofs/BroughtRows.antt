@@ -255,5 +255,6 @@ unfolding digits
 summary-answers = refl
 
 -- what is said where the arguments aren't known
-usage-line : usage ≡ text (codes "usage: summarystore STORE [run | check | gen SEED COUNT | [sessions] [framed] [batch] | frames [batch] | follow [batch]]" ∷ [])
+usage-line : usage ≡ text (codes "usage: summarystore STORE [run | check | gen SEED COUNT | [sessions] [framed] [batch] | frames [batch] | follow [batch]]"
+    ∷ [])
 usage-line = refl

@@ -1,10 +1,10 @@
 -- What a certificate brings, and that the evidence that is made for it is right.
-use Rattle.ss_program.proofs.Common.{◌≡◌, ℕ, ◌<◌, true, false, ◌↔◌, List, [], ◌∷◌, length, Ok, Option, Some, None, IsTrue, refl, ap, ◌∙◌, arith}
+use Rattle.ss_program.proofs.Common.{◌≡◌, ℕ, ◌<◌, true, false, ◌↔◌, List, ◌∷◌, length, Ok, Option, Some, None, IsTrue, refl, ap, ◌∙◌, arith}
 use Rattle.ss_program.proofs.Common.{inl, inr, cases_Bool, length-append, flat_map, is_some, option_map, is_certified, End, Query, Refusal, All-named}
-use Rattle.ss_program.proofs.Common.{HasCuts-seen_of, ChecksEvidence, evidence_in, IsEvidence, evidence_of, head_of, side_of, told, Evidence, Certify, stands}
+use Rattle.ss_program.proofs.Common.{HasCuts-seen_of, ChecksEvidence, evidence_in, IsEvidence, evidence_of, told, Evidence, Certify, stands}
 use Rattle.ss_program.proofs.Common.{Stream, state, stream_named, shown-sealed, IsSealed, DiskView, OfContent, Told, seen_of, RecordsState, shown_by, said_line}
 use Rattle.ss_program.proofs.Common.{Reply, StoreState, Recovers, Recovers-StoreIsIn, IsOpen, HasEvidence, History, certified, command_brings, refused}
-use Rattle.ss_program.proofs.Common.{only_replies, text_said, unless_refused}
+use Rattle.ss_program.proofs.Common.{only_replies, unless_refused}
 use Rattle.ss_certify.proofs.MadeLemmas.{IsEvidence-evidence_of}
 use Rattle.ss_model.specs.Answers.{refuses_query}
 use Rattle.ss_model.specs.Standing.{IsState, IsStream}

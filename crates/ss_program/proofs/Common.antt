@@ -102,10 +102,10 @@ pub use Rattle.ss_outside.specs.declared.source.Failed.{Failed}
 pub use Rattle.ss_targets.specs.Power.{power_length}
 pub use Rattle.ss_program.specs.Amid.{Amid, AreOwed, GoesAmid, HasRoomForReply, IsAmid, IsAtRest, IsReadyToServe, TakesFurther, TakesNone, one_line_more}
 pub use Rattle.ss_program.specs.Amid.{owed_by, with_text, Owed}
-pub use Rattle.ss_program.specs.Amid.{StagesBrought, TakesTurn, amid, between, owing, session_state, OfAmid, TakesBytes, TakesLast, StagesFramed}
+pub use Rattle.ss_program.specs.Amid.{StagesBrought, TakesTurn, amid, between, owing, input_run_state, OfAmid, TakesBytes, TakesLast, StagesFramed}
 pub use Rattle.ss_program.specs.Amid.{TakesStarved, staged_replies}
 pub use Rattle.ss_program.specs.Answer.{IsOpen, IsServing, at_sink, SendsRows, IsOneReply, ReadsAnswer, Shows}
-pub use Rattle.ss_program.specs.Answer.{IsTextBrought, IsRowsText, HasRows, question_command}
+pub use Rattle.ss_program.specs.Answer.{IsTextBrought, HasRows, question_command}
 pub use Rattle.ss_program.specs.Certifying.{HasEvidence, IsSharp}
 pub use Rattle.ss_program.specs.Checked.{ChecksStore, survey_line, Checks}
 pub use Rattle.ss_program.specs.Cursor.{order_in, Ordered, close_brings, closes_cursor, leaves_cursors, next_brings, open_brings, opens_cursor, placed_rows}
@@ -122,13 +122,13 @@ pub use Rattle.ss_program.specs.Line.{windows_shown, accepted_in, command_in, fr
 pub use Rattle.ss_program.specs.Line.{nothing, accepted_frame, due_brings, frame_brings, frame_replies, value_rows, IsSpeaker, event_asked}
 pub use Rattle.ss_program.specs.Outcome.{HoldsBy, steps_within, Serves, TakesFew, NotBegun, Reads, Reports, Stopped, Took, HoldsReported, Moved, ReadsPiece}
 pub use Rattle.ss_program.specs.Outcome.{ServesInput}
-pub use Rattle.ss_program.specs.Progress.{NoneWait, SessionState, StandsBeyond, StandsWithin, StopsIn, sealing_by, HoldsTalk, BeginsWithWant, HasTaken}
-pub use Rattle.ss_program.specs.Progress.{StopsAmong, StandsAround, IsAlone, EndsSession, HasReplied, TakesPiece, EndsWell, GoesOn}
+pub use Rattle.ss_program.specs.Progress.{NoneWait, InputRunState, StandsBeyond, StandsWithin, StopsIn, sealing_by, HoldsTalk, BeginsWithWant, HasTaken}
+pub use Rattle.ss_program.specs.Progress.{StopsAmong, StandsAround, IsAlone, EndsInputRun, HasReplied, TakesPiece, EndsWell, GoesOn}
 pub use Rattle.ss_program.specs.Reading.{StepState, TellsStep, most_read, step_under_way}
 pub use Rattle.ss_program.specs.Refused.{AsRefused, refusal_line, status_of_open, SaysRefusal, RefusesStore}
 pub use Rattle.ss_program.specs.Sent.{appended, AppendsLess, Sends, SaysLine, AppendsFront, StopsSaying, Puts}
-pub use Rattle.ss_program.specs.Series.{IsAnswerIn, IsSeriesText}
-pub use Rattle.ss_program.specs.Session.{plain_after, text_of, after_lines, after_line, accepted, report, report_so_far, replies, NoneCreates}
+pub use Rattle.ss_program.specs.Series.{IsAnswerIn}
+pub use Rattle.ss_program.specs.Report.{plain_after, text_of, after_lines, after_line, accepted, report, report_so_far, replies, NoneCreates}
 pub use Rattle.ss_program.specs.Status.{IsApplyStop, IsDiskStop, IsShowStop, IsStop, EndsAs, EndsServing, disk_verdict, exit_number, sink_verdict}
 pub use Rattle.ss_program.specs.Status.{source_verdict, ended, Continues}
 pub use Rattle.ss_program.specs.Steps.{steps, kept_so_far, kept_step, steps_so_far, is_in_pieces}

@@ -19,7 +19,7 @@ use Rattle.ss_program.proofs.HeldLemmas.{StandsShortForFirst-within}
 use Rattle.ss_program.proofs.OverLemmas.{accepted-over}
 use Rattle.ss_program.proofs.SealLemmas.{TakesNone-sent, TakesNone-unsealed, each-sent}
 use Rattle.ss_program.proofs.SendLemmas.{AppendsFront-all, appended-appended, appended-nil}
-use Rattle.ss_program.proofs.SessionLemmas.{after_lines-accepted, moments-more, replies-append}
+use Rattle.ss_program.proofs.ReportLemmas.{after_lines-accepted, moments-more, replies-append}
 use Rattle.ss_program.proofs.TextLemmas.{said_line-some}
 use Rattle.ss_program.specs.declared.replies.Seals.TheVariants as seal
 

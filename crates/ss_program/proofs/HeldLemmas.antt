@@ -4,7 +4,7 @@ use Rattle.ss_program.proofs.Common.{sym, ap, ◌∙◌, append_assoc, arith, na
 use Rattle.ss_program.proofs.Common.{length-take-le, take-append-le, Event, StandsShort, Happened, StandsForFirst, StandsShortForFirst, acks, the_event}
 use Rattle.ss_program.proofs.Common.{HoldsTalk, StandsWithin, appended, accepted, after_line, after_lines, text_of, Talk, turn_of}
 use Rattle.ss_program.proofs.LeftLemmas.{left_short}
-use Rattle.ss_program.proofs.SessionLemmas.{after_lines-accepted, says-some}
+use Rattle.ss_program.proofs.ReportLemmas.{after_lines-accepted, says-some}
 
 -- the events accepted of more lines
 pub accepted-append : (talk : Talk) (ls ms : List (List ℕ)) → accepted talk (ls ++ ms) ≡ accepted talk ls ++ accepted (after_lines talk ls) ms

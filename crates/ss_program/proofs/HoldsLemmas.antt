@@ -4,7 +4,7 @@ use Rattle.ss_program.proofs.Common.{append_assoc, arith, append-nil, length-app
 use Rattle.ss_program.proofs.Common.{steps_within, HoldsTalk, IsAlone, StopsAmong, appended, accepted, after_line, after_lines, text_of, Talk, turn_of, Sealing}
 use Rattle.ss_program.proofs.Common.{Each, Status, Done, Usage, RefusedStore, DiskFault, SourceFault, SinkFault, OutOfMemory, InputLimit, RecordChanged, steps}
 use Rattle.ss_program.proofs.SendLemmas.{appended-appended, appended-nil}
-use Rattle.ss_program.proofs.SessionLemmas.{after_lines-append, text_of-append, text_of-one}
+use Rattle.ss_program.proofs.ReportLemmas.{after_lines-append, text_of-append, text_of-one}
 use Rattle.ss_program.proofs.HeldLemmas.{Cuts, acks-done, acks-few, accepted-append, few-events, first-short, new_bytes, none-cut}
 use Rattle.ss_program.proofs.ReadLemmas.{AreRead}
 

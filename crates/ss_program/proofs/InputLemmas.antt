@@ -2,14 +2,15 @@
 use Rattle.ss_program.proofs.Common.{◌≡◌, ℕ, ◌+◌, ◌-◌, ◌++◌, List, [], ◌∷◌, length, take, drop, Option, Some, None, Result, Ok, Err, refl, sym, ap, ◌∙◌}
 use Rattle.ss_program.proofs.Common.{append_assoc, take-add, append-nil, take-append-drop, OnOk, meaning, Ended, Kept, kept, unless_long, Told, RecordsState}
 use Rattle.ss_program.proofs.Common.{shown_by, StoreState, Amid, GoesAmid, IsAmid, OfAmid, TakesFurther, TakesBytes, TakesLast, TakesNone, TakesTurn}
-use Rattle.ss_program.proofs.Common.{amid, owed_by, EndsSession, HasReplied, HasTaken, NoneWait, SessionState, StopsIn, TakesPiece, after_lines, Brought, Talk}
+use Rattle.ss_program.proofs.Common.{amid, owed_by, EndsInputRun, HasReplied, HasTaken, NoneWait, InputRunState, StopsIn}
+use Rattle.ss_program.proofs.Common.{TakesPiece, after_lines, Brought, Talk}
 use Rattle.ss_program.proofs.Common.{kept_framed, kept_offered, kept_spoken, kept_turn, meant_turn, turn_brought, turn_in, turn_of, Cursors, Form, Lines}
 use Rattle.ss_program.proofs.Common.{Sessions, Frames, Follow, Sealing, Seals, Status, Done, StepState, TellsStep, kept_so_far, kept_step, steps, steps_so_far}
 use Rattle.ss_program.proofs.AmidLemmas.{AreOwed-none, GoesAmid-then, IsAmid-begin, StopsIn-after, owed-nothing, said-all, sealing-owed}
 use Rattle.ss_program.proofs.AnswerLemmas.{kept-brings, line-kept, meaning-long}
 use Rattle.ss_program.proofs.SendLemmas.{rest-slice}
 use Rattle.ss_program.proofs.StepsLemmas.{steps-more}
-use Rattle.ss_program.proofs.SessionLemmas.{StopsIn-more, after_lines-form}
+use Rattle.ss_program.proofs.ReportLemmas.{StopsIn-more, after_lines-form}
 
 -- what an event brings whose frame is written, as its line is kept
 frames-kept : (talk : Talk) (o : Option (List ℕ)) (line : List ℕ) → o ≡ unless_long line → meant_turn talk (meaning line) ≡ kept_framed talk o
@@ -124,7 +125,7 @@ OfAmid-stops form other alike line next from mid after status old between new pi
     (second sealing talk before (input ++ take done piece) (alike ∙ same) one.0 one.1.amid))
 
 -- the state of a session by its parts
-abbrev pub session_of : Form → Cursors → StoreState → Kept → Seals → SessionState
+abbrev pub session_of : Form → Cursors → StoreState → Kept → Seals → InputRunState
 session_of form cursors store line waiting = record { form = form; store = store; line = line; cursors = cursors; waiting = waiting }
 
 module _ (form : Form) (cursors : Cursors) (store : StoreState) (line : Kept) (waiting : Seals) (held : Option (List ℕ)) (old : Told)
@@ -188,10 +189,10 @@ module _ (form : Form) (cursors : Cursors) (store : StoreState) (line : Kept) (w
 
   module _ (now : Cursors) (records : RecordsState) (left : Seals) (after : Option (List ℕ)) (new : Told) where
     -- the input ended, and all was sealed and sent
-    pub EndsSession-done : {u : Unit {0}} → shown_by records new.content ≡ new.content → NoneWait left →
+    pub EndsInputRun-done : {u : Unit {0}} → shown_by records new.content ≡ new.content → NoneWait left →
         TakesLast form line (amid store.records (owed_by waiting) held cursors) (amid records (owed_by left) after now) (Ok u) old new →
-        EndsSession (session_of form cursors store line waiting) held after Done old new
-    EndsSession-done sealed none takes = record {
+        EndsInputRun (session_of form cursors store line waiting) held after Done old new
+    EndsInputRun-done sealed none takes = record {
       done = λ _ sealing talk before input at replied.
           let has = takes.goes sealing talk before input at.form at.line (begins sealing talk before input at replied) in
           record {
@@ -204,10 +205,10 @@ module _ (form : Form) (cursors : Cursors) (store : StoreState) (line : Kept) (w
     }
 
     -- or the run stopped
-    pub EndsSession-stopped : (status : Status) → (status ≡ Done → ⊥) →
+    pub EndsInputRun-stopped : (status : Status) → (status ≡ Done → ⊥) →
         TakesLast form line (amid store.records (owed_by waiting) held cursors) (amid records (owed_by left) after now) (Err status) old new →
-        EndsSession (session_of form cursors store line waiting) held after status old new
-    EndsSession-stopped status going takes = record {
+        EndsInputRun (session_of form cursors store line waiting) held after status old new
+    EndsInputRun-stopped status going takes = record {
       done = λ is. absurd (going is);
       stops = λ _ sealing talk before input at replied. takes.stops sealing talk before input at.form at.line (begins sealing talk before input at replied);
     }

@@ -2,7 +2,7 @@
 use Rattle.ss_program.proofs.Common.{◌+◌, ℕ, List, None, Option, Some, Result, Ok, Err, arith, on_ok_weaker, OnOk, max, weaker, LeavesOnly, NothingPending}
 use Rattle.ss_program.proofs.Common.{Told, KeepsWithin, Turns, Stands, IsShort, StandsShort, UsesAtMost, most_needed, both, History, HoldsTalk, after_lines}
 use Rattle.ss_program.proofs.Common.{Talk}
-use Rattle.ss_program.proofs.SessionLemmas.{after_lines-used}
+use Rattle.ss_program.proofs.ReportLemmas.{after_lines-used}
 
 -- of a conversation after some lines it is asked as of the one before
 pub left_short : (talk : Talk) (ls : List (List ℕ)) (image : List ℕ) → HoldsTalk (after_lines talk ls) image →

@@ -1,6 +1,6 @@
 -- The rows of windows and of streams that are left, when one of them is taken.
-use Rattle.ss_program.proofs.Common.{◌≡◌, ◌∙◌, ℕ, suc, ◌+◌, ◌<◌, ◌≤◌, List, [], ◌∷◌, length, map, drop, Option, None, Some, IsSome, IfSome, refl, sym, ap, arith}
-use Rattle.ss_program.proofs.Common.{drop-cons, drop_all, length-drop, length-map, get_or_from_slice_get, slice_get, slice_get_within, StandsIn, index_of}
+use Rattle.ss_program.proofs.Common.{◌≡◌, ◌∙◌, ℕ, ◌+◌, ◌<◌, List, [], ◌∷◌, length, map, drop, Option, None, Some, IsSome, IfSome, refl, sym, ap, arith}
+use Rattle.ss_program.proofs.Common.{drop_all, length-drop, length-map, slice_get, StandsIn, index_of}
 use Rattle.ss_program.proofs.Common.{place_at, placed_of, Placed, Stream, state, stream_numbered, Window, SomeAgree, StoreIsIn, StoreState, part_numbered}
 use Rattle.ss_program.proofs.Common.{Stands, AllAgree-recovered, History, window_rows}
 use Rattle.ss_line.specs.declared.entry.At.{At}

@@ -1,7 +1,7 @@
 pub mod Common
 pub mod StepLemmas
 pub mod SendLemmas
-pub mod SessionLemmas
+pub mod ReportLemmas
 pub mod StepsLemmas
 pub mod SpelledLemmas
 pub mod WrittenLemmas
@@ -12,6 +12,7 @@ pub mod MeantLemmas
 pub mod TakesLemmas
 pub mod RowLemmas
 pub mod LeftRowLemmas
+pub mod LeftRows
 pub mod RowsLemmas
 pub mod ShowLemmas
 pub mod NewestLemmas
@@ -47,5 +48,5 @@ pub mod SeriesRows
 pub mod CertifyRows
 pub mod PresenceRows
 pub mod CursorRows
-pub mod SessionRows
+pub mod ReportRows
 pub mod FrameLemmas

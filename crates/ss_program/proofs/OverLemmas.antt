@@ -41,7 +41,7 @@ module _ (used : Option ℕ) where
   in-over Frames talk line = meant-over talk (meaning line)
   in-over Follow talk piece = refl
 
-  turn-over : (talk : Talk) (line : List ℕ) → turn_of (over_slots used talk) line ≡ turn_of talk line
+  pub turn-over : (talk : Talk) (line : List ℕ) → turn_of (over_slots used talk) line ≡ turn_of talk line
   turn-over talk line = in-over talk.form talk line
 
   -- the events that are accepted, and those that are acknowledged

@@ -5,7 +5,7 @@ use Rattle.ss_program.proofs.Common.{shown_by, Stands, TakesTurn, amid, owed_by,
 use Rattle.ss_program.proofs.Common.{text_of, Talk, Turn, after_turn, turn_of, Cursors, Seals, Status, OutOfMemory, ended, None}
 use Rattle.ss_program.proofs.AmidLemmas.{AreOwed-none, IsAmid-begin, StandsBeyond-all, owed-nothing, said-all, sealing-owed}
 use Rattle.ss_program.proofs.SendLemmas.{appended-appended}
-use Rattle.ss_program.proofs.SessionLemmas.{StandsWithin-before, after_lines-push, text_of-one, text_of-push}
+use Rattle.ss_program.proofs.ReportLemmas.{StandsWithin-before, after_lines-push, text_of-one, text_of-push}
 use Rattle.ss_program.proofs.BroughtLemmas.{IsAlone-one}
 
 -- a crash leaves what was there, where the disk is only read

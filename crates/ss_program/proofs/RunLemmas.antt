@@ -1,26 +1,26 @@
 -- What a run leaves, by how it ends.
 use Rattle.ss_program.proofs.Common.{◌≡◌, ◌⊎◌, inl, inr, take_all, length-drop, ℕ, ◌+◌, ◌≤◌, ◌++◌, List, [], ◌∷◌, length, take, drop, Bool, true, IsTrue}
 use Rattle.ss_program.proofs.Common.{Option, Some, refl, sym, ap, ◌∙◌, arith, take-add, append-nil, drop-drop, take-append-drop, joined, of_content, KnowsNow}
-use Rattle.ss_program.proofs.Common.{LeavesOnly, Told, Reports, Serves, Stopped, Took, steps_within, EndsWell, GoesOn, HoldsTalk, SessionState, StandsWithin}
+use Rattle.ss_program.proofs.Common.{LeavesOnly, Told, Reports, Serves, Stopped, Took, steps_within, EndsWell, GoesOn, HoldsTalk, InputRunState, StandsWithin}
 use Rattle.ss_program.proofs.Common.{StopsIn, appended, AppendsFront, after_lines, report, report_so_far, text_of, IsStop, Talk, LONGEST_INPUT, Sealing, Status}
 use Rattle.ss_program.proofs.Common.{Done, DiskFault, SourceFault, SinkFault, OutOfMemory, InputLimit, steps, steps_so_far, Form, History, StandsShort}
-use Rattle.ss_program.proofs.Common.{NothingPending, begun_over, sealing_by, kept_so_far, no_cursors, NoneWait, ReadsPiece, Ok, EndsSession, ServesInput}
+use Rattle.ss_program.proofs.Common.{NothingPending, begun_over, sealing_by, kept_so_far, no_cursors, NoneWait, ReadsPiece, Ok, EndsInputRun, ServesInput}
 use Rattle.ss_program.proofs.SendLemmas.{AppendsFront-all, appended-nil}
-use Rattle.ss_program.proofs.SessionLemmas.{StopsAmong-front, StopsAmong-more, StopsIn-more, after_lines-accepted, front-report, moments-more}
+use Rattle.ss_program.proofs.ReportLemmas.{StopsAmong-front, StopsAmong-more, StopsIn-more, after_lines-accepted, front-report, moments-more}
 use Rattle.ss_program.proofs.TakeLemmas.{GoesOn-start, GoesOn-then, StopsIn-then}
 use Rattle.ss_program.proofs.ReadLemmas.{AreRead, AreRead-front, AreRead-took, Took-at, steps-read, stop-other}
 use Rattle.ss_program.proofs.StepsLemmas.{steps-all, steps-front, steps-none}
 use Rattle.ss_program.proofs.HoldsLemmas.{HoldsReported-done, HoldsReported-stop}
 
 -- so many bytes of the input were taken since a moment, and the lines that end in them are answered
-pub record IsThrough (sealing : Sealing) (talk : Talk) (start now : Told) (session : SessionState) (before held left : Option (List ℕ)) (input : List ℕ)
+pub record IsThrough (sealing : Sealing) (talk : Talk) (start now : Told) (session : InputRunState) (before held left : Option (List ℕ)) (input : List ℕ)
     (n : ℕ) : Type 0
   where
     pub within : n ≤ length input
     pub source : left ≡ Some (drop n input)
     pub on : GoesOn sealing talk start now session before held (take n input)
 
-module _ {sealing : Sealing} {talk : Talk} {start mid now : Told} {first second : SessionState} {before held after old_left left : Option (List ℕ)}
+module _ {sealing : Sealing} {talk : Talk} {start mid now : Told} {first second : InputRunState} {before held after old_left left : Option (List ℕ)}
     {input : List ℕ} {n k : ℕ} where
   -- and so many more
   IsThrough-more : IsThrough sealing talk start mid first before held old_left input n → k ≤ length (drop n input) → left ≡ Some (drop k (drop n input)) →
@@ -33,13 +33,13 @@ module _ {sealing : Sealing} {talk : Talk} {start mid now : Told} {first second 
   }
 
 -- the same of every input and history
-abbrev pub GoesThrough : Form → Sealing → Option (List ℕ) → SessionState → Option (List ℕ) → Option (List ℕ) → Option (List ℕ) → ℕ → Told → Told → Type 0
+abbrev pub GoesThrough : Form → Sealing → Option (List ℕ) → InputRunState → Option (List ℕ) → Option (List ℕ) → Option (List ℕ) → ℕ → Told → Told → Type 0
 GoesThrough form sealing left session before held rest n old now =
     (input : List ℕ) → left ≡ Some input → NothingPending old → (used : Option ℕ) (history : History) → StandsShort used history old.content →
     IsThrough sealing (begun_over used form history) old now session before held rest input n
 
 -- none were
-pub goes-start : (session : SessionState) {left before : Option (List ℕ)} {disk : Told} → KnowsNow disk → NoneWait session.waiting →
+pub goes-start : (session : InputRunState) {left before : Option (List ℕ)} {disk : Told} → KnowsNow disk → NoneWait session.waiting →
     session.line ≡ kept_so_far session.form [] → session.cursors ≡ no_cursors →
     GoesThrough session.form (sealing_by session.waiting) left session before before left 0 disk disk
 goes-start session {before = before} {disk = disk} knows unsaid line cursors input is none used history stands =
@@ -61,7 +61,7 @@ goes-start session {before = before} {disk = disk} knows unsaid line cursors inp
           (sym (appended-nil before) ∙ ap (λ ls. appended before (text_of talk ls)) nothing);
     }
 
-module _ {form : Form} {sealing : Sealing} {left before held after old_left rest : Option (List ℕ)} {first second : SessionState} {n room k : ℕ}
+module _ {form : Form} {sealing : Sealing} {left before held after old_left rest : Option (List ℕ)} {first second : InputRunState} {n room k : ℕ}
     {start mid now : Told} where
   pub goes-more : GoesThrough form sealing left first before held old_left n start mid → ReadsPiece room first second old_left rest held after (Ok k) mid now →
       ((bytes : List ℕ) → old_left ≡ Some bytes → (k ≤ length bytes) × (k ≡ 0 → bytes ≡ []) × (rest ≡ Some (drop k bytes))) →
@@ -73,13 +73,13 @@ module _ {form : Form} {sealing : Sealing} {left before held after old_left rest
       (reads.goes (drop n input) one.source sealing (begun_over used form history) before (take n input) one.on.at one.on.replied)
 
 -- all of the input was taken
-pub record IsAtEnd (sealing : Sealing) (talk : Talk) (start now : Told) (session : SessionState) (before held left : Option (List ℕ))
+pub record IsAtEnd (sealing : Sealing) (talk : Talk) (start now : Told) (session : InputRunState) (before held left : Option (List ℕ))
     (input : List ℕ) : Type 0 where
   pub fits : length input ≤ LONGEST_INPUT
   pub source : left ≡ Some []
   pub on : GoesOn sealing talk start now session before held input
 
-pub IsThrough-end : {sealing : Sealing} {talk : Talk} {start now : Told} {session : SessionState} {before held left : Option (List ℕ)} {input : List ℕ} {n : ℕ}
+pub IsThrough-end : {sealing : Sealing} {talk : Talk} {start now : Told} {session : InputRunState} {before held left : Option (List ℕ)} {input : List ℕ} {n : ℕ}
     (after_left : Option (List ℕ)) → IsThrough sealing talk start now session before held left input n → length input ≤ n →
     length input ≤ LONGEST_INPUT → after_left ≡ Some [] → IsAtEnd sealing talk start now session before held after_left input
 IsThrough-end {sealing = sealing} {talk = talk} {start = start} {now = now} {session = session} {before = before} {held = held} {input = input}
@@ -108,7 +108,7 @@ pub record HasStopped (sealing : Sealing) (talk : Talk) (input : List ℕ) (left
     pub stops : StopsIn sealing talk (steps_within talk.form taken rest) old new before after status
 
 -- it stopped at a line of the piece that came next
-pub HasStopped-piece : (sealing : Sealing) (talk : Talk) (start mid new : Told) (session : SessionState) (input : List ℕ)
+pub HasStopped-piece : (sealing : Sealing) (talk : Talk) (start mid new : Told) (session : InputRunState) (input : List ℕ)
     (old_left left before held after : Option (List ℕ)) (status : Status)
     (n room : ℕ) → IsThrough sealing talk start mid session before held old_left input n → n + room ≤ LONGEST_INPUT →
     (count : ℕ) × (count ≤ room) × (count ≤ length (drop n input)) × (left ≡ Some (drop count (drop n input)))
@@ -133,7 +133,7 @@ any_moment-lines talk old new input run =
     rw all.1 (moments-more talk old new (steps_so_far talk.form input) all.0 run)
 
 -- or at the last line of the input
-pub HasStopped-end : (sealing : Sealing) {talk : Talk} {start mid : Told} {session : SessionState} {before held left : Option (List ℕ)} {input : List ℕ}
+pub HasStopped-end : (sealing : Sealing) {talk : Talk} {start mid : Told} {session : InputRunState} {before held left : Option (List ℕ)} {input : List ℕ}
     (new : Told)
     (after : Option (List ℕ))
     (status : Status) → IsAtEnd sealing talk start mid session before held left input →
@@ -186,7 +186,7 @@ Serves-stop sealing talk input left before after old new tells status told stop 
     }
 
 -- the session came to its end
-pub Serves-done : (sealing : Sealing) {talk : Talk} {start mid : Told} {session : SessionState} {before held left : Option (List ℕ)} {input : List ℕ}
+pub Serves-done : (sealing : Sealing) {talk : Talk} {start mid : Told} {session : InputRunState} {before held left : Option (List ℕ)} {input : List ℕ}
     (new : Told)
     (after : Option (List ℕ)) →
     IsAtEnd sealing talk start mid session before held left input → EndsWell talk (steps talk.form input) mid new before after →
@@ -209,7 +209,7 @@ Serves-done sealing {talk = talk} {start = start} {mid = mid} {before = before} 
 }
 
 -- the session was finished
-pub Serves-finish : (sealing : Sealing) {talk : Talk} {start mid : Told} {session : SessionState} {before held left : Option (List ℕ)} {input : List ℕ}
+pub Serves-finish : (sealing : Sealing) {talk : Talk} {start mid : Told} {session : InputRunState} {before held left : Option (List ℕ)} {input : List ℕ}
     (new : Told)
     (after : Option (List ℕ))
     (tells : Bool) (status : Status) → IsTrue tells → IsAtEnd sealing talk start mid session before held left input →
@@ -223,9 +223,9 @@ Serves-finish sealing {talk = talk} {start = start} {before = before} {left = le
     (inr stop) done stops =
     Serves-stop sealing talk input left before after start new tells status told stop (HasStopped-end sealing new after status end (stops stop))
 
-pub goes-finish : {form : Form} {sealing : Sealing} {left before held after old_left rest : Option (List ℕ)} {session : SessionState} {n : ℕ}
+pub goes-finish : {form : Form} {sealing : Sealing} {left before held after old_left rest : Option (List ℕ)} {session : InputRunState} {n : ℕ}
     {start mid new : Told} (tells : Bool) (status : Status) → IsTrue tells → (status ≡ Done) ⊎ IsStop tells status →
-    GoesThrough form sealing left session before held old_left n start mid → EndsSession session held after status mid new →
+    GoesThrough form sealing left session before held old_left n start mid → EndsInputRun session held after status mid new →
     ((input : List ℕ) → left ≡ Some input → (length input ≤ n) × (length input ≤ LONGEST_INPUT) × (rest ≡ Some [])) →
     (input : List ℕ) → left ≡ Some input → ServesInput form sealing input rest before after status start new
 goes-finish {form = form} {sealing = sealing} {before = before} {after = after} {rest = rest} {new = new} tells status told how through ends all
@@ -265,7 +265,7 @@ part-read talk input left after_left n is (inl how) =
 part-read talk input left after_left n is (inr how) = AreRead-front talk.form input after_left n 1 (how.1.source ∙ ap (λ bs. Some bs) (drop-drop 1 n input))
 
 -- the source failed, or more is left than an input may have
-pub Serves-part : (sealing : Sealing) {talk : Talk} {start now : Told} {session : SessionState} {before held left : Option (List ℕ)} {input : List ℕ}
+pub Serves-part : (sealing : Sealing) {talk : Talk} {start now : Told} {session : InputRunState} {before held left : Option (List ℕ)} {input : List ℕ}
     {n : ℕ}
     (status : Status)
     (after_left : Option (List ℕ)) → IsThrough sealing talk start now session before held left input n → n ≤ LONGEST_INPUT →

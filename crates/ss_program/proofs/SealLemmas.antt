@@ -8,8 +8,8 @@ use Rattle.ss_program.proofs.Common.{Talk, turn_of, Sealing, Each, Shared, Seals
 use Rattle.ss_program.proofs.AmidLemmas.{AreOwed-more, IsAmid-begin, StandsBeyond-all, StandsBeyond-none, moments-out}
 use Rattle.ss_program.proofs.LeftLemmas.{left_short, short_left}
 use Rattle.ss_program.proofs.SendLemmas.{appended-appended}
-use Rattle.ss_program.proofs.SessionLemmas.{StandsWithin-after, StandsWithin-all, StandsWithin-before, after_lines-append, after_lines-push, after_lines-used}
-use Rattle.ss_program.proofs.SessionLemmas.{text_of-append, text_of-push}
+use Rattle.ss_program.proofs.ReportLemmas.{StandsWithin-after, StandsWithin-all, StandsWithin-before, after_lines-append, after_lines-push, after_lines-used}
+use Rattle.ss_program.proofs.ReportLemmas.{text_of-append, text_of-push}
 use Rattle.ss_program.specs.declared.replies.Seals.TheVariants as seal
 
 -- the conversation after all of the lines, by those that are out and the rest

@@ -1,8 +1,8 @@
 -- How a session goes on from piece to piece of its input.
 use Rattle.ss_program.proofs.Common.{◌++◌, List, [], ℕ, Option, append-nil, at_start, joined, of_content, KnowsNow, LeavesOnly, Told, GoesOn}
-use Rattle.ss_program.proofs.Common.{HasReplied, HasTaken, SessionState, StandsWithin, StopsIn, Talk, Sealing, Status, steps_so_far}
+use Rattle.ss_program.proofs.Common.{HasReplied, HasTaken, InputRunState, StandsWithin, StopsIn, Talk, Sealing, Status, steps_so_far}
 use Rattle.ss_program.proofs.StepsLemmas.{steps-more}
-use Rattle.ss_program.proofs.SessionLemmas.{StandsWithin-all, moments-more}
+use Rattle.ss_program.proofs.ReportLemmas.{StandsWithin-all, moments-more}
 
 -- the lines of more input
 any_moment-input : (talk : Talk) (old new : Told) (taken more : List ℕ) → LeavesOnly old new (StandsWithin talk (steps_so_far talk.form taken)) →
@@ -12,7 +12,7 @@ any_moment-input talk old new taken more run =
     rw rest.1 (moments-more talk old new (steps_so_far talk.form taken) rest.0 run)
 
 -- a session that took no more bytes yet
-pub GoesOn-start : (sealing : Sealing) (talk : Talk) (disk : Told) (session : SessionState) (before held : Option (List ℕ)) (input : List ℕ) →
+pub GoesOn-start : (sealing : Sealing) (talk : Talk) (disk : Told) (session : InputRunState) (before held : Option (List ℕ)) (input : List ℕ) →
     KnowsNow disk → HasTaken sealing talk disk session input → HasReplied talk before held input →
     GoesOn sealing talk disk disk session before held (input ++ [])
 GoesOn-start sealing talk disk session before held input knows at replied = rw append-nil (record {
@@ -23,9 +23,9 @@ GoesOn-start sealing talk disk session before held input knows at replied = rw a
       (StandsWithin-all talk (steps_so_far talk.form input) disk.content at.stands));
 })
 
-module _ (sealing : Sealing) (talk : Talk) (old mid new : Told) (first : SessionState) (before held after : Option (List ℕ)) (taken more : List ℕ) where
+module _ (sealing : Sealing) (talk : Talk) (old mid new : Told) (first : InputRunState) (before held after : Option (List ℕ)) (taken more : List ℕ) where
   -- a session goes on from where it came to
-  pub GoesOn-then : (second : SessionState) → GoesOn sealing talk old mid first before held taken →
+  pub GoesOn-then : (second : InputRunState) → GoesOn sealing talk old mid first before held taken →
       GoesOn sealing talk mid new second before after (taken ++ more) → GoesOn sealing talk old new second before after (taken ++ more)
   GoesOn-then second one two = record {
     at = two.at;

@@ -43,7 +43,7 @@ pub sends-less : (before after : Option (List ℕ)) (text : List ℕ) (sent : Re
 sends-less before after text (Ok u) failed less = cc
 sends-less before after text (Err e) failed less = less
 
--- What is shown is a text that goes by the history: it was sent, or as one reply, or less than it, where the sink failed at a part of it.
+-- What is shown is a text that goes by the history: it was sent, or less than it, where the sink failed at a part of it.
 module _ (says : History → List ℕ) {old new : DiskView} {store : StoreState} {before after : Option (List ℕ)} {had has : ℕ} (sent : Result Unit Failed) where
   pub Said-sent : Step fine old new OnlyReads → IsOpen new store → Counted (verdict sent) had has →
       OfContent old (λ content. (history : History) → Stands history content → Sends before after (says history) sent) →
@@ -51,11 +51,6 @@ module _ (says : History → List ℕ) {old new : DiskView} {store : StoreState}
   Said-sent reads opens counted sends =
       Shows-sent (λ history bytes. bytes ≡ says history) old new store before after had has sent reads opens counted
       (λ told history stands bytes is. rw is (sends told history stands))
-
-  pub Said-reply : {text : List ℕ} → Step fine old new OnlyReads → IsOpen new store → Puts text before had after has sent →
-      OfContent old (λ content. (history : History) → Stands history content → says history ≡ text) →
-      Shows (λ history bytes. bytes ≡ says history) (over old before had) (over new after has) store (at_sink sent)
-  Said-reply reads opens puts are = Said-sent reads opens puts.counted (λ told history stands. rw are puts.sends)
 
   pub Said-cut : {held : Option (List ℕ)} {text : List ℕ} (status : Status) → Err status ≡ at_sink sent → Step fine old new OnlyReads → IsOpen new store →
       Puts text held had after has sent →

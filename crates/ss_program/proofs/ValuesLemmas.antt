@@ -1,9 +1,9 @@
 -- What `values` brings, by what the store holds, and its rows, one after another.
-use Rattle.ss_program.proofs.Common.{◌≡◌, ◌∙◌, ℕ, suc, ◌+◌, ◌≤◌, List, [], ◌∷◌, length, take, drop, true, false, Option, Some, None, IsSome, IfSome, refl, sym, ap}
-use Rattle.ss_program.proofs.Common.{inl, inr, cases_Bool, slice_get, is_some, Refusal, Values, Landmark, LandmarkValue, all_values, values_between, stands, Stream}
-use Rattle.ss_program.proofs.Common.{state, stream_named, Reply, ValuesHead, SomeAgree, StoreIsIn, StoreState, part_named, part_numbered, refuses_values_held}
-use Rattle.ss_program.proofs.Common.{Stands, AllAgree-recovered, refuses_values_held-is, Brought, History, command_brings, only_replies, refused}
-use Rattle.ss_program.proofs.Common.{unless_refused, value_rows, values_shown}
+use Rattle.ss_program.proofs.Common.{◌≡◌, ◌∙◌, ℕ, suc, ◌+◌, ◌≤◌, List, [], ◌∷◌, length, take, drop, true, false, Option, Some, None, IsSome, IfSome, refl, sym}
+use Rattle.ss_program.proofs.Common.{ap, inl, inr, cases_Bool, slice_get, is_some, Refusal, Values, Landmark, LandmarkValue, all_values, values_between}
+use Rattle.ss_program.proofs.Common.{stands, Stream, state, stream_named, ValuesHead, SomeAgree, StoreIsIn, StoreState, part_named, part_numbered}
+use Rattle.ss_program.proofs.Common.{refuses_values_held, Stands, AllAgree-recovered, refuses_values_held-is, Brought, History, command_brings, only_replies}
+use Rattle.ss_program.proofs.Common.{refused, unless_refused, value_rows, values_shown}
 use Rattle.ss_model.specs.Newest.{refuses_values}
 use Rattle.ss_parts.specs.declared.parts.StreamParts.{StreamParts}
 use Rattle.ss_report.specs.declared.reply.Reply.TheVariants.{Value as ValueRow}

@@ -1,5 +1,5 @@
 -- What frames bring that are written of lines, and what frames bring that are offered.
-use Rattle.ss_program.proofs.Common.{◌≡◌, ◌∙◌, List, ℕ, Option, Some, None, Result, Ok, Err, sym, ap, Event, Command, Do, Ask, Certify, Last, Values, arith}
+use Rattle.ss_program.proofs.Common.{◌≡◌, ◌∙◌, List, ℕ, Some, None, Result, Ok, Err, sym, ap, Event, Command, Do, Ask, Certify, Last, Values, arith}
 use Rattle.ss_program.proofs.Common.{common_steps, Windows, FrameState, IsHistory, state, Told, shown_by, due_in, Due}
 use Rattle.ss_program.proofs.Common.{AllAgree-recovered, StoreIsIn, StoreState, Stands, Amid, TakesTurn, History, due_brings, event_asked}
 use Rattle.ss_program.proofs.Common.{frame_brings, after_lines, Talk, Turn, event_turn, meant_turn, silent, turn_brought, Status}

@@ -17,11 +17,11 @@ use Rattle.ss_store.specs.Kept.{StoreState}
 use Rattle.ss_store.specs.Recover.{Stands}
 use Rattle.ss_program.specs.Answer.{IsOpen, IsServing}
 use Rattle.ss_program.specs.Line.{Brought, History, accepted_frame, command_in, frame_replies, history_after}
-use Rattle.ss_program.specs.Progress.{NoneWait, SessionState, StandsAround, StandsWithin, StopsIn, HoldsTalk}
+use Rattle.ss_program.specs.Progress.{NoneWait, InputRunState, StandsAround, StandsWithin, StopsIn, HoldsTalk}
 use Rattle.ss_program.specs.Reading.{StepState, step_under_way}
 use Rattle.ss_program.specs.Sent.{appended}
 use Rattle.ss_program.specs.Steps.{kept_so_far, steps, steps_so_far}
-use Rattle.ss_program.specs.Session.{after_lines, text_of}
+use Rattle.ss_program.specs.Report.{after_lines, text_of}
 use Rattle.ss_program.specs.Talk.{Talk, Turn, turn_of}
 use Rattle.ss_sessions.specs.Cursors.{Cursors, no_cursors}
 use Rattle.ss_program.specs.declared.replies.TheConstants.{LONGEST_REPLY, MOST_WAITING_BYTES}
@@ -162,17 +162,17 @@ pub record IsReadyToServe (disk : DiskView) (talk : TalkState) : Type 0 where
   pub staged : NoneStaged talk.waiting talk.store
 
 -- Between two reads of the input: the store can be called, nothing of it is staged, and no reply waits.
-pub record IsAtRest (disk : DiskView) (session : SessionState) : Type 0 where
+pub record IsAtRest (disk : DiskView) (session : InputRunState) : Type 0 where
   pub is_open : IsOpen disk session.store
   pub unsaid : NoneWait session.waiting
 
 -- what is seen of a session, by its conversation and its reader
-abbrev pub session_state : TalkState → StepState → SessionState
-session_state talk reader =
+abbrev pub input_run_state : TalkState → StepState → InputRunState
+input_run_state talk reader =
     record { form = reader.form; store = talk.store; line = step_under_way reader; cursors = talk.sessions; waiting = talk.waiting }
 
 -- and before the first one also no byte of it was taken, and no cursor is open
-pub record IsAtFront (disk : DiskView) (session : SessionState) : Type 0 where
+pub record IsAtFront (disk : DiskView) (session : InputRunState) : Type 0 where
   pub rests : IsAtRest disk session
   pub line : session.line ≡ kept_so_far session.form []
   pub cursors : session.cursors ≡ no_cursors

@@ -6,7 +6,7 @@ use Rattle.ss_command.specs.declared.command.Command.TheVariants.{Do, Ask, Last}
 use Rattle.ss_line.specs.Line.{index_of}
 use Rattle.ss_line.specs.declared.entry.At.{At}
 use Rattle.ss_model.specs.Shown.{placed_of}
-use Rattle.ss_model.specs.State.{Stream, state, stream_numbered}
+use Rattle.ss_model.specs.State.{state, stream_numbered}
 use Rattle.ss_model.specs.declared.types.Placed.{Placed}
 use Rattle.ss_outside.specs.Crash.{OnlyReads}
 use Rattle.ss_outside.specs.Disk.{DiskView, OfContent, Told}
@@ -20,7 +20,7 @@ use Rattle.ss_records.specs.Kept.{RecordsState, shown_by}
 use Rattle.ss_store.specs.Kept.{StoreIsKept, StoreState, part_numbered}
 use Rattle.ss_store.specs.Recover.{Stands}
 use Rattle.ss_program.specs.Devices.{Devices}
-use Rattle.ss_program.specs.Line.{Brought, History, command_brings, text_said, window_rows}
+use Rattle.ss_program.specs.Line.{Brought, History, command_brings, text_said}
 use Rattle.ss_program.specs.Sent.{Sends}
 use Rattle.ss_program.specs.Status.{disk_verdict, ended, sink_verdict, IsShowStop}
 use Rattle.ss_program.specs.declared.answer.Question.{Question}
@@ -74,13 +74,9 @@ IsRowAt number at store placed content = (history : History) → Stands history 
     IfSome (stream_numbered number (state history)) (λ s.
     slice_get (map placed_of s.windows) (index_of part.line.entries at) ≡ Some placed))
 
--- the text of what a command brings, and that of the rows of the windows of the stream of a number
+-- the text of what a command brings
 abbrev pub IsTextBrought : Option ℕ → Command → History → List ℕ → Type 0
 IsTextBrought speaker command history bytes = bytes ≡ text_said speaker (command_brings history command)
-
-abbrev pub IsRowsText : Option ℕ → ℕ → History → List ℕ → Type 0
-IsRowsText speaker number history bytes =
-    (s : Stream) × (stream_numbered number (state history) ≡ Some s) × (bytes ≡ flat_map (said_line speaker) (window_rows s))
 
 -- Something of the store is shown: the text of it is sent, which may go by the history, and the disk is only read.
 pub record Shows (text : History → List ℕ → Type 0) (old new : Devices) (store : StoreState) (result : Result Unit Status) : Type 0 where

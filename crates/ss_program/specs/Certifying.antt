@@ -12,6 +12,7 @@ use Rattle.ss_laws.specs.Contents.{contents_of}
 use Rattle.ss_model.specs.Answers.{outcome_of}
 use Rattle.ss_model.specs.State.{Stream, state, stream_named}
 use Rattle.ss_model.specs.declared.outcome.Outcome.{Outcome}
+use Rattle.ss_parts.specs.declared.parts.StreamParts.{StreamParts}
 use Rattle.ss_query.specs.Asked.{seen_of}
 use Rattle.ss_report.specs.declared.reply.Reply.{Reply}
 use Rattle.ss_store.specs.Recover.{Recovers}
@@ -27,9 +28,10 @@ HasEvidence query end w content = (streams : List Stream) → Recovers streams c
 abbrev pub sides_told : Evidence → List Reply
 sides_told w = flat_map (λ c. side_of c true ∷ side_of c false ∷ []) w.certs.items
 
--- Over every disk: the head and the lines behind it are those of evidence that is right.
+-- Over every disk: the head and the lines behind it are those of evidence that is right, whatever streams are held then.
 abbrev pub AreRight : Kind → End → (Reply × Rows) → Type 0
-AreRight kind end begun = (w : Evidence) × IsRight kind end w × (begun.0 ∷ rows_left begun.1 [] [] ≡ told w)
+AreRight kind end begun = (w : Evidence) × IsRight kind end w ×
+    ((parts : List StreamParts) (streams : List Stream) → begun.0 ∷ rows_left begun.1 parts streams ≡ told w)
 
 -- After a history, evidence shows of a stream that this end of the answer can't be narrower, filters aside: contents like those of
 -- the stream have it as their true answer.

@@ -14,7 +14,7 @@ use Rattle.ss_store.specs.Uses.{StandsShort}
 use Rattle.ss_program.specs.Held.{StandsShortForFirst}
 use Rattle.ss_program.specs.Line.{History}
 use Rattle.ss_program.specs.Sent.{appended, AppendsFront}
-use Rattle.ss_program.specs.Session.{accepted, replies}
+use Rattle.ss_program.specs.Report.{accepted, replies}
 use Rattle.ss_program.specs.Talk.{plain_talk}
 use Rattle.ss_program.specs.declared.status.Status.{Status}
 use Rattle.ss_program.specs.declared.status.Status.TheVariants.{Done, SinkFault}

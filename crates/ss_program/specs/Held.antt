@@ -4,7 +4,7 @@ use Rattle.ss_store.specs.Recover.{Stands}
 use Rattle.ss_store.specs.Uses.{StandsShort}
 use Rattle.ss_model.specs.History.{Happened}
 use Rattle.ss_program.specs.Line.{History, the_event}
-use Rattle.ss_program.specs.Session.{accepted, after_line}
+use Rattle.ss_program.specs.Report.{accepted, after_line}
 use Rattle.ss_program.specs.Talk.{Talk, turn_of}
 use Rattle.ss_arguments.specs.declared.mode.Sealing.{Sealing}
 use Rattle.ss_arguments.specs.declared.mode.Sealing.TheVariants.{Each}

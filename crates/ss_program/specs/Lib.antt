@@ -1,7 +1,7 @@
 pub mod Line
 pub mod Cursor
 pub mod Talk
-pub mod Session
+pub mod Report
 pub mod Sent
 pub mod Devices
 pub mod Progress

@@ -14,9 +14,9 @@ use Rattle.ss_program.specs.declared.status.Status.{Status}
 use Rattle.ss_program.specs.declared.status.Status.TheVariants.{Done, DiskFault, SourceFault, SinkFault, OutOfMemory, InputLimit}
 use Rattle.ss_program.specs.Held.{HoldsAcked}
 use Rattle.ss_program.specs.Line.{History}
-use Rattle.ss_program.specs.Progress.{GoesOn, OfTaken, SessionState, StandsWithin, StopsAmong, StopsIn}
+use Rattle.ss_program.specs.Progress.{GoesOn, OfTaken, InputRunState, StandsWithin, StopsAmong, StopsIn}
 use Rattle.ss_program.specs.Sent.{appended, AppendsFront}
-use Rattle.ss_program.specs.Session.{accepted, report, report_so_far}
+use Rattle.ss_program.specs.Report.{accepted, report, report_so_far}
 use Rattle.ss_program.specs.Status.{ended, source_verdict}
 use Rattle.ss_program.specs.Steps.{steps, steps_so_far}
 use Rattle.ss_program.specs.Talk.{Talk, begun_over}
@@ -115,7 +115,7 @@ pub record FeedsPiece (room holds : ℕ) (same : Type 0) (left rest : Option (Li
   pub stopped : OnErr result ((bytes : List ℕ) → left ≡ Some bytes → Moved room bytes rest)
 
 -- A session reads a piece of at most `room` bytes of the input, or the run stops among the lines that end in it.
-pub record ReadsPiece (room : ℕ) (from to : SessionState) (left rest held after : Option (List ℕ)) (result : Result ℕ Status)
+pub record ReadsPiece (room : ℕ) (from to : InputRunState) (left rest held after : Option (List ℕ)) (result : Result ℕ Status)
     (old new : Told) : Type 0 where
   pub goes : IfOk result (λ count. (bytes : List ℕ) → left ≡ Some bytes → OfTaken from held old (λ sealing talk before input.
       GoesOn sealing talk old new to before after (input ++ take count bytes)))

@@ -1,5 +1,5 @@
 -- How far a session has come, and where it stops.
-use Rattle.std.specs.Prelude.{◌≡◌, ◌⊎◌, ℕ, ◌<◌, ◌≤◌, ◌++◌, List, [], ◌∷◌, length, take, Option, Some, None, IsSome, IsTrue, IfOk, IfErr, Result, ⊤}
+use Rattle.std.specs.Prelude.{◌≡◌, ◌⊎◌, ℕ, ◌<◌, ◌≤◌, ◌++◌, List, [], ◌∷◌, length, take, Option, IsSome, IsTrue, IfOk, IfErr, Result, ⊤}
 use Rattle.ss_outside.specs.Crash.{LeavesOnly}
 use Rattle.ss_outside.specs.Disk.{Told, NothingPending}
 use Rattle.ss_store.specs.Kept.{StoreState}
@@ -8,7 +8,7 @@ use Rattle.ss_store.specs.Uses.{StandsShort}
 use Rattle.ss_program.specs.Line.{Brought, History, history_after, text_brought}
 use Rattle.ss_program.specs.Sent.{appended, StopsSaying}
 use Rattle.ss_program.specs.Steps.{kept_so_far, steps, steps_so_far}
-use Rattle.ss_program.specs.Session.{after_lines, text_of, report_so_far}
+use Rattle.ss_program.specs.Report.{after_lines, text_of, report_so_far}
 use Rattle.ss_program.specs.Talk.{Talk, turn_of}
 use Rattle.ss_sessions.specs.Cursors.{Cursors}
 use Rattle.ss_arguments.specs.declared.mode.Form.{Form}
@@ -21,7 +21,7 @@ use Rattle.ss_program.specs.declared.status.Status.TheVariants.{Done, OutOfMemor
 
 -- what contracts see of a session: the form of its input, its store, what is kept of the line that is under way, the cursors, and how events
 -- are sealed, with the replies that wait for that
-pub record SessionState : Type 0 where
+pub record InputRunState : Type 0 where
   pub form : Form
   pub store : StoreState
   pub line : Option (List ℕ)
@@ -44,7 +44,7 @@ NoneWait (seal.Shared replies) = replies ≡ []
 
 -- After a conversation began the session has taken these bytes: the disk stands for the history before with the events accepted since,
 -- with nothing pending, and the line under way is what no line end has ended.
-pub record HasTaken (sealing : Sealing) (talk : Talk) (disk : Told) (session : SessionState) (taken : List ℕ) : Type 0 where
+pub record HasTaken (sealing : Sealing) (talk : Talk) (disk : Told) (session : InputRunState) (taken : List ℕ) : Type 0 where
   pub stands : HoldsTalk (after_lines talk (steps_so_far talk.form taken)) disk.content
   pub durable : NothingPending disk
   pub line : session.line ≡ kept_so_far talk.form taken
@@ -67,7 +67,7 @@ StandsWithin talk ls image =
     (done : List (List ℕ)) × (others : List (List ℕ)) × (ls ≡ done ++ others) × HoldsTalk (after_lines talk done) image
 
 -- From one moment on to another a session took further bytes: a crash left only images of some first lines.
-pub record GoesOn (sealing : Sealing) (talk : Talk) (old new : Told) (session : SessionState) (before held : Option (List ℕ)) (taken : List ℕ) : Type 0
+pub record GoesOn (sealing : Sealing) (talk : Talk) (old new : Told) (session : InputRunState) (before held : Option (List ℕ)) (taken : List ℕ) : Type 0
   where
     pub at : HasTaken sealing talk new session taken
     pub replied : HasReplied talk before held taken
@@ -128,13 +128,13 @@ pub record EndsWell (talk : Talk) (ls : List (List ℕ)) (old new : Told) (befor
 
 -- What a session says of a conversation and an input at the start of a call, where it has taken these bytes and the sink got what is said
 -- to the lines of them.
-abbrev pub OfTaken : SessionState → Option (List ℕ) → Told → (Sealing → Talk → Option (List ℕ) → List ℕ → Type 0) → Type 0
+abbrev pub OfTaken : InputRunState → Option (List ℕ) → Told → (Sealing → Talk → Option (List ℕ) → List ℕ → Type 0) → Type 0
 OfTaken session held disk P =
     (sealing : Sealing) (talk : Talk) (before : Option (List ℕ)) (input : List ℕ) → HasTaken sealing talk disk session input →
     HasReplied talk before held input → P sealing talk before input
 
 -- A session takes bytes of a piece of the input, by the answer so many, or the run stops at lines that end in the piece.
-pub record TakesPiece {T : Type 0} (moved : T → List ℕ) (piece : List ℕ) (from to : SessionState) (held after : Option (List ℕ))
+pub record TakesPiece {T : Type 0} (moved : T → List ℕ) (piece : List ℕ) (from to : InputRunState) (held after : Option (List ℕ))
     (result : Result T Status) (old new : Told) : Type 0 where
   pub goes : IfOk result (λ value. OfTaken from held old (λ sealing talk before input.
       GoesOn sealing talk old new to before after (input ++ moved value)))
@@ -142,7 +142,7 @@ pub record TakesPiece {T : Type 0} (moved : T → List ℕ) (piece : List ℕ) (
       StopsIn sealing talk (steps_so_far talk.form (input ++ piece)) old new before after status))
 
 -- A session ends its input: all lines are answered, or the run stops among the last ones.
-pub record EndsSession (from : SessionState) (held after : Option (List ℕ)) (status : Status) (old new : Told) : Type 0 where
+pub record EndsInputRun (from : InputRunState) (held after : Option (List ℕ)) (status : Status) (old new : Told) : Type 0 where
   pub done : status ≡ Done → OfTaken from held old (λ sealing talk before input. EndsWell talk (steps talk.form input) old new before after)
   pub stops : (status ≡ Done → ⊥) → OfTaken from held old (λ sealing talk before input.
       StopsIn sealing talk (steps talk.form input) old new before after status)

@@ -9,7 +9,7 @@ use Rattle.ss_store.specs.Uses.{StandsShort}
 use Rattle.ss_program.specs.Generated.{generated_lines, is_done, is_refused, last_six}
 use Rattle.ss_program.specs.Line.{History}
 use Rattle.ss_program.specs.Progress.{StandsWithin}
-use Rattle.ss_program.specs.Session.{plain_after, replies}
+use Rattle.ss_program.specs.Report.{plain_after, replies}
 use Rattle.ss_program.specs.Talk.{plain_over}
 use Rattle.ss_program.specs.declared.generate.Tally.{Tally}
 use Rattle.ss_program.specs.declared.status.Status.{Status}

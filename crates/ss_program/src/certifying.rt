@@ -1,5 +1,5 @@
 // Why an end of an answer can't be narrower, filters aside: the evidence is made and checked, and then shown.
-ghost use Rattle.std.specs.Prelude.{◌≡◌, true, IsTrue, IfOk, IfErr, None, OnOk};
+ghost use Rattle.std.specs.Prelude.{◌≡◌, true, drop, IsTrue, IfOk, IfErr, None, Ok, OnOk};
 ghost use Rattle.ss_catalog.specs.Queries.{is_certified};
 ghost use Rattle.ss_certify.specs.Evidence.{IsRight};
 ghost use Rattle.ss_command.specs.declared.command.Command.TheVariants.{Certify};
@@ -9,7 +9,7 @@ ghost use Rattle.ss_outside.specs.Step.{Step};
 ghost use Rattle.ss_store.specs.Asked.{refuses_query_held};
 ghost use Rattle.ss_program.specs.Answer.{IsOpen, ReadsAnswer};
 ghost use Rattle.ss_program.specs.Certifying.{AreRight, HasEvidence, sides_told};
-ghost use Rattle.ss_program.specs.Rows.{AreBrought, RowsStand, TakesHeld};
+ghost use Rattle.ss_program.specs.Rows.{AreBrought, IsFirstOf, RowsStand, TakesHeld};
 ghost use Rattle.ss_program.specs.Status.{disk_verdict, ended, IsDiskStop};
 
 use crate::rows::{MOST_LINES, Rows};
@@ -134,8 +134,14 @@ pub fn begin_certificate<D: Disk>(
 }
 
 /// Takes the next of the lines that are made already.
-pub fn next_line(lines: &ArrayVec<Reply, MOST_LINES>, next: &mut usize, store: &Store) -> Option<Reply>
-    ensures { TakesHeld store.now (Rows.Lines lines.now next.old) (Rows.Lines lines.now next.new) result }
+pub fn next_line(
+    lines: &ArrayVec<Reply, MOST_LINES>,
+    next: &mut usize,
+    store: &Store,
+) -> Option<Reply>
+    ensures takes { TakesHeld store.now (Rows.Lines lines.now next.old) (Rows.Lines lines.now next.new) result }
+    // Over every disk: only a line that was made is taken, each in its turn.
+    ensures first { IsFirstOf (Ok result) (drop next.old lines.now.items) (drop next.new lines.now.items) }
 {
     let lines = lines.as_slice();
     if *next >= lines.len() {

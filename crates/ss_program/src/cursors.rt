@@ -19,13 +19,13 @@ use crate::status::Status;
 use ss_catalog::{Name, Refusal};
 use ss_outside::{Disk, Failed, Sink};
 use ss_report::Reply;
-use ss_sessions::{CursorError, Sessions};
+use ss_sessions::{CursorError, OpenCursors};
 use ss_store::Store;
 
 /// Opens the cursor of a session over the windows of a stream, as the store shows them, and answers the reply to that. Where memory
 /// runs out no call of the disk was made.
 pub fn open_cursor<D: Disk>(
-    sessions: &mut Sessions,
+    sessions: &mut OpenCursors,
     session: u8,
     store: &mut Store,
     name: &Name,
@@ -52,7 +52,7 @@ pub fn open_cursor<D: Disk>(
 
 // Says the next rows of the cursor of a session, which has so many left.
 fn send_next<K: Sink>(
-    sessions: &mut Sessions,
+    sessions: &mut OpenCursors,
     session: u8,
     count: u32,
     sink: &mut K,
@@ -78,7 +78,7 @@ fn send_next<K: Sink>(
 
 /// Shows the next rows of the cursor of a session, at most so many, or says that there is no cursor.
 pub fn show_next<K: Sink>(
-    sessions: &mut Sessions,
+    sessions: &mut OpenCursors,
     session: u8,
     count: u32,
     sink: &mut K,
@@ -97,7 +97,7 @@ pub fn show_next<K: Sink>(
 }
 
 /// Closes the cursor of a session, and answers the reply to that.
-pub fn close_cursor(sessions: &mut Sessions, session: u8) -> Reply
+pub fn close_cursor(sessions: &mut OpenCursors, session: u8) -> Reply
     requires { session < MOST_SESSIONS }
     ensures reply { (close_brings sessions.old session).brought ≡ only_replies (result ∷ []) }
     ensures cursors { sessions.new ≡ (close_brings sessions.old session).cursors }

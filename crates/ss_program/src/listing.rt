@@ -10,10 +10,7 @@ use ss_store::Store;
 pub fn begin_list(store: &Store) -> (Reply, Rows)
     ensures { Begins ListAll store.now result }
 {
-    (
-        Reply::ListHead(store.streams()),
-        Rows::Streams { next: 0 },
-    )
+    (Reply::ListHead(store.streams()), Rows::Streams { next: 0 })
 }
 
 /// Takes the row of the next stream.

@@ -30,13 +30,21 @@ pub enum Rows {
     /// No row is left.
     End,
     /// The windows of a stream, from this one on.
-    Windows { id: StreamId, next: Option<At> },
+    Windows {
+        id: StreamId,
+        next: Option<At>,
+    },
     /// The streams in order of creation, from this place on.
-    Streams { next: u32 },
+    Streams {
+        next: u32,
+    },
     /// Values of landmarks that stand together.
     Values(ValueRange),
     /// The rows of a series, from this one on. Each is asked when it is taken.
-    Series { series: Series, next: u32 },
+    Series {
+        series: Series,
+        next: u32,
+    },
     /// Lines that are made already, from this one on.
     Lines {
         lines: ArrayVec<Reply, MOST_LINES>,

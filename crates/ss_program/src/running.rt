@@ -46,8 +46,8 @@ ghost use Rattle.ss_program.specs.Status.{EndsAs, EndsServing, disk_verdict, end
 use crate::buffer::buffer_for;
 use crate::check::check;
 use crate::generate::generate;
+use crate::input_run::InputRun;
 use crate::refusing::{refuse, say_usage};
-use crate::session::Session;
 use crate::status::Status;
 use ss_arguments::{Form, Mode, Sealing, mode_of};
 use ss_outside::{Disk, Failed, Sink, Source};
@@ -60,7 +60,7 @@ pub const LONGEST_INPUT: u64 = 1 << 36;
 // Reads at most `room` bytes, as many as the buffer holds, answers each line that ends in them, and says how many there were: 0 at
 // the end of the input.
 fn read_piece<D: Disk, S: Source, K: Sink>(
-    session: &mut Session,
+    session: &mut InputRun,
     buffer: &mut [u8],
     room: u64,
     disk: &mut D,
@@ -111,7 +111,7 @@ fn is_at_end<S: Source>(source: &mut S) -> Result<bool, Failed>
 
 // Reads the source to its end, and answers each of its lines.
 fn serve<D: Disk, S: Source, K: Sink>(
-    session: &mut Session,
+    session: &mut InputRun,
     buffer: &mut [u8],
     disk: &mut D,
     source: &mut S,
@@ -160,7 +160,7 @@ fn serve_store<D: Disk, S: Source, K: Sink>(
         (ServesInput form sealing input (S.left source.new) (K.held sink.old) (K.held sink.new) result) }
 {
     match Store::open(alloc, disk) {
-        Ok(store) => match Session::start(alloc, store, form, sealing) {
+        Ok(store) => match InputRun::start(alloc, store, form, sealing) {
             Ok(mut session) => serve(&mut session, buffer, disk, source, sink),
             Err(_) => Status::OutOfMemory,
         },

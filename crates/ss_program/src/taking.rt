@@ -3,9 +3,9 @@ ghost use Rattle.std.specs.Prelude.{◌≡◌, ◌⊎◌, ◌↔◌, ◌<◌, �
 ghost use Rattle.std.specs.Option.{option_copied};
 ghost use Rattle.ss_outside.specs.Step.{Step};
 ghost use Rattle.ss_outside.specs.Verdict.{Counted};
-ghost use Rattle.ss_program.specs.Amid.{IsReadyToServe, TakesBytes, TakesLast, between, session_state};
+ghost use Rattle.ss_program.specs.Amid.{IsReadyToServe, TakesBytes, TakesLast, between, input_run_state};
 ghost use Rattle.ss_program.specs.Answer.{IsOpen};
-ghost use Rattle.ss_program.specs.Progress.{EndsSession, NoneWait, TakesPiece};
+ghost use Rattle.ss_program.specs.Progress.{EndsInputRun, NoneWait, TakesPiece};
 ghost use Rattle.ss_program.specs.Reading.{step_under_way};
 ghost use Rattle.ss_program.specs.Status.{Continues, disk_verdict, ended, sink_verdict, IsStop};
 
@@ -89,8 +89,8 @@ pub fn take_piece<D: Disk, K: Sink>(
 ) -> Result<(), Status>
     requires { IsOpen (D.seen disk.old) talk.old.store }
     ensures takes { Step (disk_verdict (ended result)) (D.seen disk.old) (D.seen disk.new) (TakesPiece (λ _. piece.now) piece.now
-        (session_state talk.old reader.old)
-        (session_state talk.new reader.new)
+        (input_run_state talk.old reader.old)
+        (input_run_state talk.new reader.new)
         (K.held sink.old) (K.held sink.new) result) }
     ensures continues { Continues IsStop (D.seen disk.old).tells (K.faults sink.old) (K.faults sink.new)
         (IsOpen (D.seen disk.new) talk.new.store) result }
@@ -150,8 +150,8 @@ pub fn finish_lines<D: Disk, K: Sink>(
     sink: &mut K,
 ) -> Status
     requires { IsOpen (D.seen disk.old) talk.old.store }
-    ensures ends { Step (disk_verdict result) (D.seen disk.old) (D.seen disk.new) (EndsSession
-        (session_state talk.old reader.old)
+    ensures ends { Step (disk_verdict result) (D.seen disk.old) (D.seen disk.new) (EndsInputRun
+        (input_run_state talk.old reader.old)
         (K.held sink.old) (K.held sink.new) result) }
     ensures status { (result ≡ Status.Done) ⊎ IsStop (D.seen disk.old).tells result }
     ensures form { reader.new.form ≡ reader.old.form }

@@ -1,8 +1,9 @@
 -- What lines bring after the same events, whichever of their values are old.
 use Rattle.ss_program.proofs.Common.{◌≡◌, ◌⊎◌, ◌∙◌, ℕ, ℤ, List, [], ◌∷◌, ◌++◌, length, Option, Some, None, Result, Ok, Err, refl, sym, ap, ap₂, inl, inr}
-use Rattle.ss_program.proofs.Common.{arith, common_steps, ◌+ℤ◌, All, false, flat_map, map, option_map, pos, length-map, map-append, All-head, All-tail, listed}
+use Rattle.ss_program.proofs.Common.{arith, common_steps, All, false, flat_map, map, option_map, length-map, map-append, All-head, All-tail, listed}
 use Rattle.ss_program.proofs.Common.{event_name, row_query, row_start, rows_of, row_count, whole_query, Event, End, Kind, Query, Refusal, Series, evidence_in}
-use Rattle.ss_program.proofs.Common.{answer_from, with_certified, certificates_of, evidence_of, Evidence, meant-sayable, meaning, IsSayable, takes_value, Command, Do}
+use Rattle.ss_program.proofs.Common.{answer_from, with_certified, certificates_of, evidence_of, Evidence, meant-sayable, meaning, IsSayable, takes_value}
+use Rattle.ss_program.proofs.Common.{Command, Do}
 use Rattle.ss_program.proofs.Common.{Ask}
 use Rattle.ss_program.proofs.Common.{Certify, Last, Values, Windows, is_free, history-old, state-old, answer_of, refuses_query, added, marked_values, newest_in}
 use Rattle.ss_program.proofs.Common.{refuses_values, as_old, unfiltered_stream, unfiltered_window, IsHistory, refuses, refuses_reading, refuses_series, Stream}

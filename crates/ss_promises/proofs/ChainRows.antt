@@ -1,11 +1,16 @@
 -- Worked rows of runs over one file, one after the other, computed.
 use Rattle.ss_program.specs.declared.status.Status.TheVariants.{DiskFault, Done}
-use Rattle.ss_program.proofs.Common.{◌≡◌, ◌⊎◌, ◌∙◌, ◌≤◌, ◌++◌, ℕ, List, [], ◌∷◌, length, take, zero, suc, ap, arith, inl, inr, lit≤, refl, false, Some}
-use Rattle.ss_program.proofs.Common.{None, codes, flat_map, pos, negsuc, Lines, Serve, Check, Gen, Each, Create, Value, exp, Happened, added, KnowsNow}
-use Rattle.ss_program.proofs.Common.{DiskView, WhereTold, Stands-unformed, Stands}
-use Rattle.ss_promises.specs.Chained.{AreLinked, Extends, Link, accepted_of, acked_of, acked_till, by_crash}
-use Rattle.ss_program.proofs.Common.{generated_lines, History, accepted, plain_talk}
-use Rattle.ss_promises.specs.Chained.{by_itself, offered_in}
+use Rattle.ss_program.proofs.Common.{◌≡◌, ◌⊎◌, ◌∙◌, ◌≤◌, ◌++◌, ℕ, List, [], ◌∷◌, length, take, ap, arith, inl, inr, lit≤, refl, false, Some}
+use Rattle.ss_program.proofs.Common.{None, codes, flat_map, negsuc, Lines, Serve, Check, Gen, Each, Value, Happened, added, KnowsNow}
+use Rattle.ss_program.proofs.Common.{DiskView, WhereTold, Stands-unformed, Stands, Told}
+use Rattle.ss_program.proofs.Common.{generated_lines, History, accepted, plain_talk, Result, Bool, true, Ok, Shared, append-nil}
+use Rattle.ss_promises.specs.Chained.{AreLinked, Extends, IsLeftBy, Link, a_run, accepted_of, acked_of, at_a_moment, by_crash}
+use Rattle.ss_promises.specs.Chained.{by_itself, bytes_by, making, offered_in}
+use Rattle.hex.specs.Hex.{encode_with}
+use Rattle.ss_codec.specs.Fields as Fields
+use Rattle.ss_fields.specs.Fields as Numbers
+use Rattle.ss_frames.specs.Frame.{frame_spelled}
+use Rattle.ss_outside.specs.declared.source.Failed.{Failed}
 use Rattle.std.specs.Fmt.{digits}
 use Rattle.ss_catalog.specs.Names.{is_name}
 use Rattle.ss_command.specs.Grammar.{meaning}
@@ -16,15 +21,10 @@ use Rattle.ss_journal.specs.Format.{is_unborn}
 use Rattle.ss_model.specs.Refusals.{refuses}
 use Rattle.ss_model.specs.State.{state}
 use Rattle.ss_targets.specs.Windowing.{window_index}
+use Rattle.ss_promises.proofs.AckedRows.{created, one-or_two, read-first, ten}
 use Rattle.ss_promises.proofs.ChainLemmas.{extends-linked}
 
--- a stream and its first value, and one more value
-abbrev created : Happened
-created = added (Create (codes "a") (exp 2 1 1))
-
-abbrev ten : Happened
-ten = added (Value (codes "a") 10 (pos 5))
-
+-- one more value of the stream
 abbrev twenty : Happened
 twenty = added (Value (codes "a") 20 (negsuc 2))
 
@@ -36,59 +36,68 @@ abbrev second_input : List ℕ
 second_input = codes "append a 20 -3" ++ 10 ∷ []
 
 -- the events of a run are those of its input, or of the generated file
-accepted-first : accepted_of (Some (Serve (Lines false) Each)) first_input [] ≡ created ∷ ten ∷ []
+accepted-first : accepted_of (a_run (Some (Serve (Lines false) Each))) first_input [] ≡ created ∷ ten ∷ []
 unfolding ended_lines unended meaning words is_number number_of number_up_to signed_of is_name state refuses window_index
 accepted-first = refl
 
-accepted-second : accepted_of (Some (Serve (Lines false) Each)) second_input (created ∷ []) ≡ twenty ∷ []
+accepted-second : accepted_of (a_run (Some (Serve (Lines false) Each))) second_input (created ∷ []) ≡ twenty ∷ []
 unfolding ended_lines unended meaning words is_number number_of number_up_to signed_of is_name state refuses window_index
 accepted-second = refl
 
-accepted-after_both : accepted_of (Some (Serve (Lines false) Each)) second_input (created ∷ ten ∷ []) ≡ twenty ∷ []
+accepted-after_both : accepted_of (a_run (Some (Serve (Lines false) Each))) second_input (created ∷ ten ∷ []) ≡ twenty ∷ []
 unfolding ended_lines unended meaning words is_number number_of number_up_to signed_of is_name state refuses window_index
 accepted-after_both = refl
 
-accepted-check : accepted_of (Some Check) first_input [] ≡ []
+accepted-check : accepted_of (a_run (Some Check)) first_input [] ≡ []
 accepted-check = refl
 
-accepted-none : accepted_of None first_input [] ≡ []
+accepted-none : accepted_of (a_run None) first_input [] ≡ []
 accepted-none = refl
 
 accepted-generated : (seed count : ℕ) (history : History) →
-    accepted_of (Some (Gen seed count)) first_input history ≡ accepted (plain_talk history) (generated_lines seed count)
+    accepted_of (a_run (Some (Gen seed count))) first_input history ≡ accepted (plain_talk history) (generated_lines seed count)
 accepted-generated seed count history = refl
 
 -- with the last byte of its reply an event is acknowledged, where there is an input
-acked-less : acked_of (Some (Serve (Lines false) Each)) first_input 6 [] ≡ 0
+acked-less : acked_of (a_run (Some (Serve (Lines false) Each))) first_input 6 [] ≡ 0
 unfolding ended_lines unended meaning words is_number number_of number_up_to signed_of is_name state refuses window_index digits
 acked-less = refl
 
-acked-one : acked_of (Some (Serve (Lines false) Each)) first_input 7 [] ≡ 1
+acked-one : acked_of (a_run (Some (Serve (Lines false) Each))) first_input 7 [] ≡ 1
 unfolding ended_lines unended meaning words is_number number_of number_up_to signed_of is_name state refuses window_index digits
 acked-one = refl
 
-acked-generated : (seed count bytes : ℕ) (history : History) → acked_of (Some (Gen seed count)) first_input bytes history ≡ 0
+acked-generated : (seed count bytes : ℕ) (history : History) → acked_of (a_run (Some (Gen seed count))) first_input bytes history ≡ 0
 acked-generated seed count bytes history = refl
 
-acked_till-end : acked_till by_itself 7 ≡ 7
-acked_till-end = refl
+accepted-making : (result : Result Bool Failed) (history : History) → accepted_of (making result) first_input history ≡ []
+accepted-making result history = refl
 
-acked_till-crash : acked_till by_crash 7 ≡ 0
-acked_till-crash = refl
+acked-making : (result : Result Bool Failed) (bytes : ℕ) (history : History) → acked_of (making result) first_input bytes history ≡ 0
+acked-making result bytes history = refl
 
--- some first of two, from one on
-one-or_two : (j : ℕ) → 1 ≤ j → j ≤ 2 → (take j (created ∷ ten ∷ []) ≡ created ∷ []) ⊎ (take j (created ∷ ten ∷ []) ≡ created ∷ ten ∷ [])
-one-or_two zero some few = absurd (omega (arith, some))
-one-or_two (suc zero) some few = inl refl
-one-or_two (suc (suc zero)) some few = inr refl
-one-or_two (suc (suc (suc j))) some few = absurd (omega (arith, few))
+-- of a framed run one whose sink got the `ok` and not yet the frame behind it
+acked-framed : acked_of (a_run (Some (Serve (Lines true) Each))) first_input 7 [] ≡ 1
+unfolding ended_lines unended meaning words is_number number_of number_up_to signed_of is_name state refuses window_index digits encode_with
+    frame_spelled Fields.with_field Numbers.number_bytes
+acked-framed = refl
+
+-- how much a sink that had a byte got: all that it has, what it had got by the crash, or nothing that is known
+bytes-itself : bytes_by by_itself (1 ∷ []) (1 ∷ 2 ∷ 3 ∷ 4 ∷ []) ≡ 3
+bytes-itself = refl
+
+bytes-crash : bytes_by (by_crash (1 ∷ 2 ∷ 3 ∷ [])) (1 ∷ []) (1 ∷ 2 ∷ 3 ∷ 4 ∷ []) ≡ 2
+bytes-crash = refl
+
+bytes-moment : bytes_by at_a_moment (1 ∷ []) (1 ∷ 2 ∷ 3 ∷ 4 ∷ []) ≡ 0
+bytes-moment = refl
 
 -- runs of these inputs, in which each event is sealed by itself
 module _ {D : Type 0} (a b c d : D) (image last : List ℕ) where
   -- one whose disk fails after the sink got one reply
   abbrev failed : Link D
   failed = record {
-    mode = Some (Serve (Lines false) Each);
+    called = a_run (Some (Serve (Lines false) Each));
     old = a;
     new = b;
     input = first_input;
@@ -100,13 +109,16 @@ module _ {D : Type 0} (a b c d : D) (image last : List ℕ) where
     image = image;
   }
 
-  -- one that a crash cuts off, and one that is done
+  -- one that a crash cuts off when its sink had got so much, one that it cuts off at some moment, and one that is done
+  abbrev cut_after : List ℕ → Link D
+  cut_after got = record failed { ending = by_crash got }
+
   abbrev cut_off : Link D
-  cut_off = record failed { ending = by_crash }
+  cut_off = record failed { ending = at_a_moment }
 
   abbrev finished : Link D
   finished = record {
-    mode = Some (Serve (Lines false) Each);
+    called = a_run (Some (Serve (Lines false) Each));
     old = c;
     new = d;
     input = second_input;
@@ -135,7 +147,37 @@ module _ {D : Type 0} (a b c d : D) (image last : List ℕ) where
     | inr both ↦ cc
   ]
 
-  -- of the one that was cut off none is known to be acknowledged
+  -- the one that a crash cut off holds the event whose reply the sink had got by then, and where that lacks a byte perhaps none
+  after-cut : (next : History) → Extends (cut_after (codes "ok 0 0" ++ 10 ∷ [])) [] next → (next ≡ created ∷ []) ⊎ (next ≡ created ∷ ten ∷ [])
+  unfolding ended_lines unended meaning words is_number number_of number_up_to signed_of is_name state refuses window_index digits
+  after-cut next ext =
+      let acked : 1 ≤ ext.j = ext.acked in
+      let few : ext.j ≤ 2 = ext.few in
+      elim (one-or_two ext.j acked few) [
+        | inl one ↦ inl (ext.is ∙ one)
+        | inr both ↦ inr (ext.is ∙ both)
+      ]
+
+  fewer-cut : Extends (cut_after (codes "ok 0 0" ++ 10 ∷ [])) [] [] → ⊥
+  fewer-cut ext = elim (after-cut [] ext) [
+    | inl one ↦ cc
+    | inr both ↦ cc
+  ]
+
+  before-cut : Extends (cut_after (codes "ok 0 0")) [] []
+  unfolding ended_lines unended meaning words is_number number_of number_up_to signed_of is_name state refuses window_index digits
+  before-cut = record {
+    j = 0;
+    is = refl;
+    few = lit≤ tt;
+    acked = lit≤ tt;
+    at_most = λ known form each. lit≤ tt;
+    in_batch = λ known form shared. cc;
+    done = λ known done. cc;
+    starved = λ known form sealing asked starved. cc;
+  }
+
+  -- of one that was cut off at some moment none is known to be acknowledged
   none-cut_off : Extends cut_off [] []
   unfolding ended_lines unended meaning words is_number number_of number_up_to signed_of is_name state refuses window_index digits
   none-cut_off = record {
@@ -143,15 +185,65 @@ module _ {D : Type 0} (a b c d : D) (image last : List ℕ) where
     is = refl;
     few = lit≤ tt;
     acked = lit≤ tt;
-    at_most = λ is form each. cc;
-    done = λ is done. cc;
-    starved = λ is form sealing asked starved. cc;
+    at_most = λ known form each. absurd known;
+    in_batch = λ known form shared. absurd known;
+    done = λ known done. cc;
+    starved = λ known form sealing asked starved. cc;
   }
+
+  -- the call that makes a store a checked one adds no event
+  abbrev made : Link D
+  made = record failed { called = making (Ok true); ending = by_itself }
+
+  after-made : (history next : History) → Extends made history next → next ≡ history
+  after-made history next ext =
+      let none : ext.j ≡ 0 = omega (arith, ext.few) in
+      ext.is ∙ ap (λ j. history ++ take j []) none ∙ append-nil history
+
+  -- a batch that read the first line alone, and whose disk failed: it holds no event of the second
+  abbrev batch : Link D
+  batch = record failed {
+    called = a_run (Some (Serve (Lines false) Shared));
+    rest = Some (codes "append a 10 5" ++ 10 ∷ []);
+  }
+
+  within-batch : (next : History) → Extends batch [] next → next ≡ created ∷ []
+  unfolding ended_lines unended meaning words is_number number_of number_up_to signed_of is_name state refuses window_index digits
+  within-batch next ext =
+      let acked : 1 ≤ ext.j = ext.acked in
+      let all : ext.j ≤ 2 = ext.few in
+      let read = ext.in_batch tt (Lines false) refl in
+      let one = read-first read.0 read.1 read.2 read.3 in
+      let few : ext.j ≤ 1 = rw (one.0, one.1) at read.4 in
+      let is_one : ext.j ≡ 1 = omega (arith, acked, few) in
+      ext.is ∙ ap (λ j. take j (created ∷ ten ∷ [])) is_one
+
+  batch-read : Extends batch [] (created ∷ [])
+  unfolding ended_lines unended meaning words is_number number_of number_up_to signed_of is_name state refuses window_index digits
+  batch-read = record {
+    j = 1;
+    is = refl;
+    few = lit≤ tt;
+    acked = lit≤ tt;
+    at_most = λ known form each. cc;
+    in_batch = λ known form shared.
+        let same : Lines false ≡ form = cc in
+        rw (← same) (codes "create a exp 2 1 1" ++ 10 ∷ [], codes "append a 10 5" ++ 10 ∷ [], refl, refl, lit≤ tt);
+    done = λ known done. cc;
+    starved = λ known form sealing asked starved. cc;
+  }
+
+  -- what a sink had got by a crash is a front of what it has
+  left-crash : (old new : Told) → new.may_leave image → IsLeftBy (by_crash (1 ∷ [])) old new (1 ∷ 2 ∷ []) image
+  left-crash old new may = (may, (2 ∷ [], refl))
+
+  left-other : (old new : Told) → IsLeftBy (by_crash (3 ∷ [])) old new (1 ∷ 2 ∷ []) image → ⊥
+  left-other old new left = let wrong : 1 ∷ 2 ∷ [] ≡ 3 ∷ left.1.0 = left.1.1 in cc
 
   -- the one that is done holds its event
   after-finished : (history next : History) → offered_in finished history ≡ twenty ∷ [] → Extends finished history next → next ≡ history ++ twenty ∷ []
   after-finished history next offers ext =
-      let all : ext.j ≡ 1 = ext.done refl refl ∙ ap (λ (es : List Happened). length es) offers in
+      let all : ext.j ≡ 1 = ext.done tt refl ∙ ap (λ (es : List Happened). length es) offers in
       ext.is ∙ ap (λ j. history ++ take j (offered_in finished history)) all ∙ ap (λ es. history ++ take 1 es) offers
 
   -- over an empty file the two leave the events of the second behind the one or the two of the first

@@ -16,7 +16,7 @@ use Rattle.ss_replica.specs.declared.judging.Due.TheVariants.{Old as OldFrame, G
 use Rattle.ss_promises.specs.Followed.{frames_after, offer_reply}
 use Rattle.ss_promises.proofs.ConversationLemmas.{talk-leaves}
 use Rattle.ss_promises.proofs.OwnedLemmas.{own-few}
-use Rattle.ss_program.proofs.SessionLemmas.{after_lines-accepted}
+use Rattle.ss_program.proofs.ReportLemmas.{after_lines-accepted}
 use Rattle.ss_program.proofs.MeantLemmas.{event-or-silent}
 
 -- the frames of more events
@@ -97,7 +97,7 @@ next-said : (history : History) (event : Event) (refusal : Option Refusal) → l
 next-said history event None = (append-nil _, refl)
 next-said history event (Some refusal) = (append-nil _, refl)
 
-due-said : (history : History) (frame : FrameState) (due : Due) →
+pub due-said : (history : History) (frame : FrameState) (due : Due) →
     IsSaid history (offered_as due history frame.event) (text_said None (due_brings history frame due)) (due_brings history frame due).event
 due-said history frame Next = next-said history frame.event (refuses (state history) frame.event)
 due-said history frame OldFrame = (append-nil _, refl)

@@ -20,7 +20,7 @@ use Rattle.ss_sessions.specs.Cursors.{refuses_cursor}
 use Rattle.ss_sessions.specs.declared.TheConstants.{ADDRESS}
 use Rattle.ss_base.specs.declared.limits.TheConstants.{MOST_SESSIONS}
 use Rattle.ss_program.proofs.CursorLemmas.{cursor-stands, cursor_of-with, next-shown}
-use Rattle.ss_program.proofs.SessionLemmas.{after_lines-form}
+use Rattle.ss_program.proofs.ReportLemmas.{after_lines-form}
 use Rattle.ss_sessions.specs.declared.order.Order.TheVariants as orders
 use Rattle.ss_program.proofs.MeantLemmas.{event-or-silent}
 

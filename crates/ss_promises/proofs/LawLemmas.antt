@@ -5,7 +5,8 @@ use Rattle.ss_program.proofs.Common.{row_count, row_start, rows_of, MayBeAnswer-
 use Rattle.ss_program.proofs.Common.{IsSayable, Command, Do, Ask, Certify, answer-ends, answer-exact, answer-holds, answer-kind, answer-known, IsHistory_push}
 use Rattle.ss_program.proofs.Common.{IsState-state, row-answered, HasEnds, HoldsPresence, HoldsTruth, IsExactOutcome, IsOfKind, interval_query, outcome_of}
 use Rattle.ss_program.proofs.Common.{refuses_query, split_by, CanBeSaid, added, marked_of, values_of, IsHistory, refuses, AnswersRow, refuses_series, state}
-use Rattle.ss_program.proofs.Common.{true_presence, Outcome, Count, Sum, Min, Max, Mean, Has, Estimate, MeanEstimate, Presence, Point, Reply, Answered, SeriesHead, Row, IsSharp, Brought}
+use Rattle.ss_program.proofs.Common.{true_presence, Outcome, Count, Sum, Min, Max, Mean, Has, Estimate, MeanEstimate, Presence}
+use Rattle.ss_program.proofs.Common.{Point, Reply, Answered, SeriesHead, Row, IsSharp, Brought}
 use Rattle.ss_program.proofs.Common.{History, accepted_in, command_in, meaning_in, brings, command_brings, history_after, meaning_brings, nothing, refused}
 use Rattle.ss_program.proofs.Common.{only_replies, unless_refused, plain_after, replies, inl, inr}
 use Rattle.ss_command.specs.declared.command.Command.TheVariants.{Series as AskRows}
@@ -13,7 +14,7 @@ use Rattle.ss_model.proofs.RowLemmas.{some-outcome}
 use Rattle.ss_program.proofs.AnswerLemmas.{brings-answer_replies, history-still, event-or-none}
 use Rattle.ss_program.proofs.CertifyLemmas.{brings-certified, evidence-known, evidence-right}
 use Rattle.ss_program.proofs.SeriesLemmas.{brings-series, series_rows-map}
-use Rattle.ss_program.proofs.SessionLemmas.{replies-append}
+use Rattle.ss_program.proofs.ReportLemmas.{replies-append}
 use Rattle.ss_catalog.specs.declared.query.Kind.TheVariants as kinds
 use Rattle.ss_promises.specs.Guesses.{GuessLiesBetween}
 

@@ -1,6 +1,6 @@
 -- How long a file gets by the streams that its history has.
-use Rattle.ss_program.proofs.Common.{◌≡◌, ◌∙◌, ℕ, ◌+◌, ◌-◌, ◌*◌, ◌^◌, ◌<◌, ◌≤◌, ◌++◌, List, [], ◌∷◌, All, Some, length, max, refl, sym, ap, arith, append_assoc}
-use Rattle.ss_program.proofs.Common.{append-nil, most_needed, length-uses, UsesAtMost-more, KnowsNow, DiskView, WhereTold, Stands, UsesAtMost, Happened}
+use Rattle.ss_program.proofs.Common.{◌≡◌, ℕ, ◌+◌, ◌-◌, ◌*◌, ◌^◌, ◌≤◌, ◌++◌, List, [], ◌∷◌, All, Some, length, max, refl, ap, arith, append_assoc}
+use Rattle.ss_program.proofs.Common.{append-nil, most_needed, length-uses, UsesAtMost-more, KnowsNow, DiskView, WhereTold, Stands, UsesAtMost}
 use Rattle.std.proofs.Common.{lit≤}
 use Rattle.std.proofs.Math.Nat.{le_trans, mul-le-mul_right}
 use Rattle.ss_catalog.specs.declared.params.Family.TheVariants.{Exp, Power}

@@ -6,7 +6,11 @@ pub mod NewestLaws
 pub mod HeardLemmas
 pub mod ConversationLemmas
 pub mod AskedRows
+pub mod AckedLemmas
+pub mod AckedRows
 pub mod FollowedLemmas
+pub mod BrokenLemmas
+mod BrokenRows
 pub mod ChainLemmas
 pub mod ChainRows
 pub mod NameRows
@@ -17,4 +21,5 @@ pub mod AlikeLemmas
 pub mod AlikeText
 pub mod OwnedLemmas
 pub mod LengthLemmas
-mod PrimaryRows
+mod ShortRows
+pub mod PrimaryRows

@@ -17,7 +17,7 @@ use Rattle.ss_promises.proofs.AnewLemmas.{unknown-dropped, unknown-more}
 use Rattle.ss_promises.proofs.ConversationLemmas.{asked-brings}
 use Rattle.ss_program.proofs.CursorLemmas.{open-refused}
 use Rattle.ss_promises.proofs.HeardLemmas.{turn-heard}
-use Rattle.ss_program.proofs.SessionLemmas.{after_lines-accepted, after_lines-form, after_lines-push}
+use Rattle.ss_program.proofs.ReportLemmas.{after_lines-accepted, after_lines-form, after_lines-push}
 use Rattle.ss_sessions.specs.declared.order.Order.TheVariants as orders
 
 refused-unknown : (refusal : Option Refusal) (brought : Brought) → refusal ≡ Some Unknown → unless_refused refusal brought ≡ refused Unknown

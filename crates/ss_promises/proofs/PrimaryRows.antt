@@ -1,5 +1,5 @@
 -- What a primary is, which frames are its own and which streams are alike: at some rows, and just beside them.
-use Rattle.std.proofs.Common.{◌≡◌, ◌++◌, ℕ, Bool, true, false, List, [], ◌∷◌, map, None, Some, refl, codes, pos, lit<, lit≤, arith, ap}
+use Rattle.std.proofs.Common.{◌≡◌, ◌++◌, ℕ, true, false, List, [], ◌∷◌, map, None, Some, refl, codes, pos, lit<, lit≤, arith, ap}
 use Rattle.std.specs.Prelude.{get_or}
 use Rattle.std.specs.Int.{w64}
 use Rattle.std.proofs.lemmas.Int.{fits_signed_from_abs}
@@ -57,7 +57,7 @@ history-readings =
     })
 
 -- it is a primary, and it isn't one with a drop behind, with its value old, or where the value comes first
-primary-readings : IsPrimary (created ∷ ten ∷ [])
+pub primary-readings : IsPrimary (created ∷ ten ∷ [])
 primary-readings = record { is_history = history-readings; undropped = refl; values = refl }
 
 primary-dropped : IsPrimary (created ∷ ten ∷ added (Drop a) ∷ []) → ⊥

@@ -11,7 +11,7 @@ use Rattle.ss_model.proofs.StepLemmas.{stands-outline, state-push}
 use Rattle.ss_model.specs.Answers.{refuses_query}
 use Rattle.ss_model.specs.Refusals.{refuses}
 use Rattle.ss_model.specs.Steps.{stepped_from}
-use Rattle.ss_program.proofs.SessionLemmas.{plain_after-append}
+use Rattle.ss_program.proofs.ReportLemmas.{plain_after-append}
 use Rattle.ss_program.proofs.AnswerLemmas.{brings-unanswered, history-still, event-or-none}
 
 -- after this history no stream of the name stands

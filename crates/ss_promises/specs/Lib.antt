@@ -1,3 +1,4 @@
+pub mod Acked
 pub mod Asked
 pub mod Followed
 pub mod Chained

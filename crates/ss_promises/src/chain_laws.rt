@@ -11,14 +11,15 @@ ghost use Rattle.ss_program.specs.Line.{History};
 
 use ss_outside::Disk;
 
-/// Over any chain of runs, crashes and openings the file stands for one history, which holds every event that was acknowledged in a run
-/// that ended by itself. Of a run that a crash cut off it holds some first accepted events. Each run begins over what the one before
-/// left, with nothing pending, in whichever mode, and ends in whichever way: with any status, whatever a crash leaves then, or by a
-/// crash at any moment of it. And the file never gets longer than the most records that the history needs at a time make it, or than it
-/// was.
+/// Over any chain of runs, crashes and openings the file stands for one history, which holds every event whose `ok` the sink got in a run:
+/// by the end of one that ended by itself, and by the crash of one that a crash cut off, seen as a run whose disk fails each call from the
+/// crash on. Of a run that a crash cut off at some moment it holds some first accepted events. Each run begins over what the one before
+/// left, with nothing pending, in whichever mode, and ends in whichever way: with any status, whatever a crash leaves then, or by a crash
+/// at any moment of it. A call that makes a store a checked one is a link as well. And the file never gets longer than the most records
+/// that the history needs at a time make it, or than it was.
 pub fn chains_of_runs_hold_one_history<D: Disk>()
     // Where the file stood for a history, it stands for one in the end that goes on from this, run after run by some first of the
-    // events that are accepted in the run: at least all that are acknowledged, and at a status of 0 all.
+    // events that are accepted in the run: at least all that are acknowledged, and at a status of 0 all (`Extends`).
     ensures one_history { (links : List (Link D)) (first last : List ℕ) (history : History) →
         Stands history first → AreLinked D.seen links first last → (now : History) × ExtendsAll links history now × Stands now last }
     // A file that isn't formatted yet, such as an empty one, stands for the history without an event.

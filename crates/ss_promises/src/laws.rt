@@ -34,7 +34,7 @@ ghost use Rattle.ss_report.specs.declared.reply.Reply.TheVariants.{Answered, Las
 ghost use Rattle.ss_summary.specs.Points.{Point};
 ghost use Rattle.ss_program.specs.Certifying.{IsSharp};
 ghost use Rattle.ss_program.specs.Line.{History, value_rows};
-ghost use Rattle.ss_program.specs.Session.{NoneCreates, plain_after, replies, text_of};
+ghost use Rattle.ss_program.specs.Report.{NoneCreates, plain_after, replies, text_of};
 ghost use Rattle.ss_program.specs.Talk.{plain_talk};
 ghost use Rattle.ss_promises.specs.Guesses.{GuessLiesBetween};
 

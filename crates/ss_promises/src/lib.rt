@@ -14,8 +14,8 @@ mod step_laws;
 
 pub use chain_laws::chains_of_runs_hold_one_history;
 pub use frame_laws::{
-    followed_frames_are_offered, followers_go_on_with_their_primary,
-    reports_are_the_frames_of_accepted_events,
+    any_bytes_are_followed, followed_frames_are_offered, followers_go_on_with_their_primary,
+    followers_own_fronts_of_their_primary, reports_are_the_frames_of_accepted_events,
 };
 pub use laws::{
     certificates_are_sharp, dropped_streams_are_unknown, guesses_lie_between_the_ends,

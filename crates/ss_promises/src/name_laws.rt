@@ -14,7 +14,7 @@ ghost use Rattle.ss_summary.specs.Points.{Origin};
 ghost use Rattle.ss_promises.specs.Asked.{IsAsked, IsOrder};
 ghost use Rattle.ss_program.specs.Line.{History, refused};
 ghost use Rattle.ss_promises.specs.Needed.{needed};
-ghost use Rattle.ss_program.specs.Session.{NoneCreates, accepted, after_line, after_lines, plain_after, replies};
+ghost use Rattle.ss_program.specs.Report.{NoneCreates, accepted, after_line, after_lines, plain_after, replies};
 ghost use Rattle.ss_program.specs.Talk.{Talk, begun, turn_brought, turn_of};
 
 /// A name that was dropped is unknown until it is created: each command that needs a stream of the name is refused UNKNOWN, before any

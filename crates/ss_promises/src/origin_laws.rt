@@ -12,7 +12,7 @@ ghost use Rattle.ss_model.specs.declared.outcome.Presence.TheVariants.{Maybe};
 ghost use Rattle.ss_store.specs.Recover.{Recovers, Stands};
 ghost use Rattle.ss_promises.specs.Alike.{AsksPresence, HaveSameEvents};
 ghost use Rattle.ss_program.specs.Line.{History, brings, line_text};
-ghost use Rattle.ss_program.specs.Session.{plain_after, text_of};
+ghost use Rattle.ss_program.specs.Report.{plain_after, text_of};
 ghost use Rattle.ss_program.specs.Talk.{plain_talk};
 
 /// To plain lines a store that took its values without filters says of them what one with filters says, but for whether a value is

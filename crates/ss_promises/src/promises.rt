@@ -21,10 +21,11 @@ ghost use Rattle.ss_program.specs.Line.{History};
 ghost use Rattle.ss_program.specs.Outcome.{steps_within};
 ghost use Rattle.ss_program.specs.Promises.{BeginsOver, ChecksBy, FinishesBy, GeneratesBy, RejectsBy, ServesBy};
 ghost use Rattle.ss_program.specs.Sent.{appended};
-ghost use Rattle.ss_program.specs.Session.{accepted, report, report_so_far};
+ghost use Rattle.ss_program.specs.Report.{accepted, report, report_so_far};
 ghost use Rattle.ss_program.specs.Status.{EndsAs};
 ghost use Rattle.ss_program.specs.Steps.{steps};
 ghost use Rattle.ss_program.specs.Talk.{begun};
+ghost use Rattle.ss_promises.specs.Acked.{HoldsOks};
 
 use ss_arguments::{Mode, Sealing};
 use ss_outside::Disk;
@@ -67,6 +68,15 @@ pub fn runs_hold_what_they_acknowledge<D: Disk>(old: &D, new: &D)
         × (acks (begun form history) (steps form input) (length has - length had) ≤ j)
         × (j ≤ length (accepted (begun form history) (steps_within form read others)))
         × Stands (history ++ take j (accepted (begun form history) (steps form input))) image }
+    // However a run ends, whatever a crash leaves after it holds each event whose `ok` the sink got whole, though it got no more of what is
+    // said to the line: at most one more where each event is sealed by itself, and none but those of the lines that were read.
+    ensures ok_held { (mode : Option Mode) (left rest held holds : Option (List ℕ)) (faults faulted number : ℕ) →
+        ServesBy mode (D.seen old.now) (D.seen new.now) left rest held holds number →
+        FinishesBy mode (over (D.seen old.now) held faults) (over (D.seen new.now) holds faulted) number →
+        (status : Status) → EndsAs number status → (form : Form) (sealing : Sealing) (history : History) (input : List ℕ) →
+        BeginsOver form sealing mode (D.seen old.now) left history input → (had has : List ℕ) →
+        held ≡ Some had → holds ≡ Some has → (image : List ℕ) → (D.seen new.now).told.may_leave image →
+        HoldsOks sealing (begun form history) input rest (length has - length had) status image }
     // Where a read of the source fails, the sink got the whole reply to each line that had ended in what was read, and nothing more. No
     // run can know before that a read will fail, so this is what it sent before each read.
     ensures asked_again { (mode : Option Mode) (left rest held holds : Option (List ℕ)) (number : ℕ) →

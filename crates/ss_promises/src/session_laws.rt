@@ -35,7 +35,7 @@ ghost use Rattle.ss_summary.specs.Points.{Point};
 ghost use Rattle.ss_promises.specs.Asked.{IsAsked, IsOrder, NoneCloses, rows_asked};
 ghost use Rattle.ss_program.specs.Certifying.{IsSharp};
 ghost use Rattle.ss_program.specs.Line.{History, command_in, only_replies, text_said, value_rows, window_rows};
-ghost use Rattle.ss_program.specs.Session.{after_line, after_lines, text_of};
+ghost use Rattle.ss_program.specs.Report.{after_line, after_lines, text_of};
 ghost use Rattle.ss_program.specs.Talk.{Talk, begun, is_framed, turn_brought, turn_of};
 ghost use Rattle.ss_promises.specs.Guesses.{GuessLiesBetween};
 

@@ -15,7 +15,7 @@ ghost use Rattle.ss_model.specs.declared.outcome.Outcome.{Outcome};
 ghost use Rattle.ss_report.specs.declared.reply.Reply.TheVariants.{Answered, SeriesHead, Row};
 ghost use Rattle.ss_promises.specs.Asked.{IsAsked};
 ghost use Rattle.ss_program.specs.Line.{History, only_replies};
-ghost use Rattle.ss_program.specs.Session.{plain_after, replies};
+ghost use Rattle.ss_program.specs.Report.{plain_after, replies};
 ghost use Rattle.ss_program.specs.Talk.{Talk, turn_brought, turn_of};
 
 /// Where a stream keeps to a step of the clock, each line of a session that asks for a range of whole steps, or for one that begins at a

@@ -7,7 +7,6 @@ use Rattle.std.proofs.lemmas.Int.{ints}
 use Rattle.std.proofs.lemmas.List.Sums.{sum_by-cons}
 use Rattle.ss_bounds.specs.Either.{either, greatest_in, least_in}
 use Rattle.ss_bounds.specs.Extremes.{listed, max_interval, min_interval}
-use Rattle.ss_bounds.specs.declared.fraction.Fraction.{Fraction}
 use Rattle.ss_bounds.specs.Guess.{count_guess, sum_guess}
 use Rattle.ss_bounds.specs.MeanGuess.{mean_guess}
 use Rattle.ss_bounds.specs.Means.{mean_interval}
@@ -28,7 +27,8 @@ use Rattle.ss_model.specs.Standing.{IsStream}
 use Rattle.ss_model.specs.State.{Stream}
 use Rattle.ss_model.specs.declared.outcome.Outcome.TheVariants.{Count, Estimate, Has, Max, Mean, MeanEstimate, Min, Sum}
 use Rattle.ss_model.specs.declared.types.Window.{Window}
-use Rattle.ss_query.specs.Asked.{counts_of, counts_seen, cut_of, figures_of, seen_count, seen_max, seen_min, seen_sum, outcome_seen, seen_of, sums_of, values_seen}
+use Rattle.ss_query.specs.Asked.{counts_of, counts_seen, cut_of, figures_of, seen_count, seen_max, seen_min, seen_sum, outcome_seen}
+use Rattle.ss_query.specs.Asked.{seen_of, sums_of, values_seen}
 use Rattle.ss_query.specs.Asked.{sums_seen}
 use Rattle.ss_query.specs.declared.asking.Seen.{Seen}
 use Rattle.ss_query.specs.declared.cut.Cut.{Cut}

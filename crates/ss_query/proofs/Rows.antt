@@ -191,7 +191,8 @@ split-count = refl
 fraction : ℤ → ℕ → Fraction
 fraction over under = record { over = over; under = under }
 
-means-seen : outcome_seen kinds.Mean (known kinds.Mean 10) ∷ outcome_seen kinds.Mean (known kinds.Mean 20) ∷ outcome_seen kinds.MeanGuess (known kinds.MeanGuess 20) ∷ []
+means-seen : outcome_seen kinds.Mean (known kinds.Mean 10) ∷ outcome_seen kinds.Mean (known kinds.Mean 20) ∷
+    outcome_seen kinds.MeanGuess (known kinds.MeanGuess 20) ∷ []
     ≡ Mean (means.Sure (fraction (pos 21) 5) (fraction (pos 21) 5)) ∷ Mean (means.Sure (fraction (pos 17) 4) (fraction (pos 16) 3))
     ∷ MeanEstimate (guesses.Sure (fraction (pos 17) 4) (fraction (pos 17) 4) (fraction (pos 16) 3)) ∷ []
 unfolding known window values fraction mean_guess mean_interval lowest

@@ -1,5 +1,4 @@
 -- What a query makes of the landmarks of a stream, and of its windows, read one after the other.
-use Rattle.ss_base.specs.Near.{IsNear}
 use Rattle.std.specs.Prelude.{◌≡◌, ℕ, ◌+◌, ◌^◌, ◌<◌, ◌≤◌, ◌&&◌, nat_le, nat_lt, if◌then◌else◌, ℤ, pos, ◌+ℤ◌, unsigned_abs}
 use Rattle.std.specs.Prelude.{List, fold, IfSome, Option, None, Some}
 use Rattle.std.specs.Option.{option_map, option_map_or}

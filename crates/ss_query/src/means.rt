@@ -3,7 +3,8 @@ ghost use Rattle.std.specs.Prelude.{◌≡◌, ◌^◌, ◌≤◌};
 ghost use Rattle.ss_base.specs.Near.{IsNear};
 ghost use Rattle.ss_query.specs.Asked.{IsFewMarked, outcome_seen, values_seen};
 
-use crate::asking::{Seen, figures_of, known_count, known_sum};
+use crate::answering::{figures_of, known_count, known_sum};
+use crate::asking::Seen;
 use ss_bounds::{Fraction, mean_bounds, mean_guess};
 use ss_catalog::Kind;
 use ss_model::Outcome;

@@ -42,8 +42,8 @@ pub use Rattle.ss_records.specs.Kept.{AreKept, AreLiveOver, RecordsState}
 pub use Rattle.ss_records.specs.Live.{are_zeros, LiveLieBelow, AreLiveBelow, is_live}
 pub use Rattle.ss_recover.specs.Carried.{created_by, in_order, is_drop_of, is_dropped, is_mark_of, marks_carried, put_in_order, stands_by, stream_number}
 pub use Rattle.ss_recover.specs.Carried.{streams_created, streams_standing, window_of, windows_carried}
-pub use Rattle.ss_recover.specs.Conditions.{has_new_name, has_one_record, has_place, has_sound_values, is_named_before, keep_own_step, keep_step, stands_sound}
-pub use Rattle.ss_recover.specs.Conditions.{tile, tile_from, times_rise}
+pub use Rattle.ss_recover.specs.Conditions.{are_sound, has_new_name, has_one_record, has_place, is_named_before, keep_own_step, keep_step, stands_alone}
+pub use Rattle.ss_recover.specs.Conditions.{stands_sound, tile, tile_from, times_rise}
 pub use Rattle.ss_recover.specs.Doomed.{doomed_among, doomed_slots, GoInTurn, is_doomed, is_of, is_own, may_go, records_beside, without_numbered}
 pub use Rattle.ss_recover.specs.Gathered.{AreFound, AreFoundBelow, AreGathered, below, FindsOut, GathersAs, IsLowestBad, SpellsNone}
 pub use Rattle.ss_parts.specs.Held.{Agrees, all_value_records, AllAgree, AreHeld, AreWhole, AreWholeBeside, EndByLast, entries_of, HasWholeSlots, in_slots}
@@ -56,7 +56,7 @@ pub use Rattle.ss_recover.specs.Order.{found_key, key_of, place_of, Rises, strea
 pub use Rattle.ss_recover.specs.Parts.{bad_slot, bad_stream, Carried, carries, judged, lowest_bad_slot, lowest_bad_stream, lowest_in, records_in}
 pub use Rattle.ss_recover.specs.Parts.{stream_carried, streams_carried}
 pub use Rattle.ss_recover.specs.Rebuilt.{HasParts, Rebuilds, RebuildsAs, verdict_of_rebuild}
-pub use Rattle.ss_recover.specs.Runs.{AreBuilt, AreSlotsOf, doomed_found, has_sound_values_in_order, has_sound_values_within, is_run, is_sound_in_order}
+pub use Rattle.ss_recover.specs.Runs.{AreBuilt, AreSlotsOf, doomed_found, has_sound_values_within, is_run, is_sound_in_order}
 pub use Rattle.ss_recover.specs.Runs.{IsLowestUnsound, marks_in, may_stand, stream_made, streams_made, WalksAs, windows_in}
 pub use Rattle.ss_recover.specs.Shown.{AddsName, AreMade, AreWindowsOf, all_closed, BuildsAs, EndsWalk, found_by, found_number, Grows}
 pub use Rattle.ss_recover.specs.Shown.{HasMarkRoom, HasMore, HasNothing, is_after, is_landmark, is_value, is_window, IsHeldOf, IsInside}

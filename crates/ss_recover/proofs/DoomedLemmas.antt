@@ -1,7 +1,7 @@
 -- The records of dropped streams among those that were found: they are of no stream that stands, and may go in turn.
 use Rattle.ss_recover.proofs.Common.{[], ◌++◌, ◌+◌, ◌<◌, ◌==◌, ◌∙◌, ◌∷◌, ◌≡◌, ◌≤◌, AllByRecursion, and_parts, ap, ap₂, are_zeros, AreSlotsOf, arith, Bool}
 use Rattle.ss_recover.proofs.Common.{cases_Bool, cond-true, count_by, Created, created_by, doomed_among, doomed_found, doomed_slots, each-behind, eq-eqb}
-use Rattle.ss_recover.proofs.Common.{eqb-true, false, false_from_ne_true, filter, filter-map, filter_map-append, Found, Free, GoInTurn, inl, inr, is_doomed}
+use Rattle.ss_recover.proofs.Common.{eqb-true, false, false_from_ne_true, filter, filter-map, filter_map-append, Found, GoInTurn, inl, inr, is_doomed}
 use Rattle.ss_recover.proofs.Common.{is_drop_of, is_dropped, is_of, is_own, IsPermutation, IsPermutation-map, IsPermutation-sym, IsPermutation-trans}
 use Rattle.ss_recover.proofs.Common.{IsStrictlyIncreasing, List, list_any, list_any-append, list_any-IsPermutation, map, map-append, map-id, map-map}
 use Rattle.ss_recover.proofs.Common.{may_go, None, not, not_from_false, occupied, Option, option_map_or, or_cases, or_from, or_left, or_right, range_with_len}

@@ -4,13 +4,13 @@ use Rattle.ss_recover.proofs.Common.{ap, ap₂, arith, Bool, cases_Bool, cond-fa
 use Rattle.ss_recover.proofs.Common.{eqb-true, false, filter, filter-append, filter_map, filter_map-append, has_new_name, has_one_record, has_place, in_order}
 use Rattle.ss_recover.proofs.Common.{inl, inr, is_drop_of, is_dropped, is_mark_of, is_named_before, is_of, keep_own_step, leb, List, list_any, list_any-append}
 use Rattle.ss_recover.proofs.Common.{lowest_bad_stream, lt-ltb, ltb-true, map, may_go, MOST_STREAMS, nat_lt, None, not, not-true, Option, option_map_or}
-use Rattle.ss_recover.proofs.Common.{or_cases, or_from, or_left, or_parts, or_right, Params, Record, refl, Some, stands_by, Stream, stream_carried}
-use Rattle.ss_recover.proofs.Common.{stream_number, stream_of, streams_carried, streams_created, streams_standing, subst, sum_by-append, sum_by-cons, sym, true}
-use Rattle.ss_recover.proofs.Common.{true≢false, window_of, without_numbered, ℕ}
+use Rattle.ss_recover.proofs.Common.{or_cases, or_from, or_left, or_parts, or_right, Params, Record, refl, Some, stands_alone, stands_by, Stream}
+use Rattle.ss_recover.proofs.Common.{stream_carried, stream_number, stream_of, streams_carried, streams_created, streams_standing, subst, sum_by-append}
+use Rattle.ss_recover.proofs.Common.{sum_by-cons, sym, true, true≢false, window_of, without_numbered, ℕ}
 use Rattle.ss_recover.specs.Conditions.{is_sound}
 use Rattle.ss_recover.proofs.InOrder.{all-in_order}
 use Rattle.ss_model.proofs.FoundLemmas.{each-append}
-use Rattle.ss_recover.proofs.SoundStreams.{digit, none-passes, own_step-fewer, stands_alone}
+use Rattle.ss_recover.proofs.SoundStreams.{digit, none-passes, own_step-fewer}
 use Rattle.ss_recover.proofs.SoundNumbers.{all-false, AreSound, HaveSameValues, is_numbered, is_sound-kept, none-stands, none_bad-AreSound, one-dropped}
 use Rattle.ss_recover.proofs.SoundNumbers.{one-sound, standing-any, stream_carried-same}
 use Rattle.ss_codec.specs.declared.record.Record.TheVariants as records

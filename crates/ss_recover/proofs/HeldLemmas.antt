@@ -1,13 +1,12 @@
 -- What is held is what the map carries.
 use Rattle.ss_parts.proofs.Lists.{all-from_map, all_both, all_weaker, filter_map-kept, kept, position-none}
-use Rattle.ss_recover.proofs.Common.{[], ◌<◌, ◌∙◌, ◌∷◌, ◌≡◌, ◌≤◌, All, All-from_recursion, All-permutation, AllByRecursion, and_from, ap, ap₂, are_marks}
-use Rattle.ss_recover.proofs.Common.{AreHeld, arith, carries, Created, created_by, filter, filter_map, Free, HasWholeSlots, is_mark_of, is_none, IsDistinct}
-use Rattle.ss_recover.proofs.Common.{IsInStep, IsPermutation, IsState, IsStream, IsStrictlyIncreasing, judged, keep_own_step, landmarks_made, length}
-use Rattle.ss_recover.proofs.Common.{length-map, lies_free, List, list_all, live, lowest_bad_slot, lowest_bad_stream, map, map-map, marks_carried}
-use Rattle.ss_recover.proofs.Common.{MOST_RECORDS, MOST_STREAMS, ne_eqb, None, not, Option, or_left, or_right, Record, records_in, records_of}
-use Rattle.ss_recover.proofs.Common.{recursion_from_All, refl, rule_of, same_name, SlotMap, stands_by, Stream, stream_carried, stream_number, StreamParts}
-use Rattle.ss_recover.proofs.Common.{streams_carried, streams_created, streams_standing, subst, sum_by-cons, sym, tile, times_rise, true, Window, window_of}
-use Rattle.ss_recover.proofs.Common.{windows_carried, ℕ}
+use Rattle.ss_recover.proofs.Common.{[], ◌<◌, ◌∙◌, ◌∷◌, ◌≡◌, ◌≤◌, All, All-from_recursion, All-permutation, AllByRecursion, and_from, ap, ap₂, AreHeld, arith}
+use Rattle.ss_recover.proofs.Common.{carries, Created, created_by, filter, filter_map, Free, HasWholeSlots, is_mark_of, is_none, IsDistinct, IsInStep}
+use Rattle.ss_recover.proofs.Common.{IsPermutation, IsState, IsStream, IsStrictlyIncreasing, judged, keep_own_step, landmarks_made, length, length-map}
+use Rattle.ss_recover.proofs.Common.{lies_free, List, list_all, live, lowest_bad_slot, lowest_bad_stream, map, map-map, marks_carried, MOST_RECORDS}
+use Rattle.ss_recover.proofs.Common.{MOST_STREAMS, ne_eqb, None, not, Option, or_left, or_right, Record, records_in, records_of, recursion_from_All, refl}
+use Rattle.ss_recover.proofs.Common.{rule_of, same_name, SlotMap, stands_alone, stands_by, stands_sound, Stream, stream_carried, stream_number, StreamParts}
+use Rattle.ss_recover.proofs.Common.{streams_carried, streams_created, streams_standing, subst, sum_by-cons, sym, true, Window, window_of, windows_carried, ℕ}
 use Rattle.ss_recover.specs.Carried.{spelled}
 use Rattle.ss_recover.specs.Conditions.{is_sound}
 use Rattle.ss_recover.specs.Parts.{carried}
@@ -15,7 +14,7 @@ use Rattle.ss_recover.proofs.HeldRecords.{all-number_of, all_walked, created, cr
 use Rattle.ss_recover.proofs.HeldRecords.{standing-all_walked}
 use Rattle.ss_recover.proofs.InOrder.{in_order-IsPermutation, Rise, Rise-increasing}
 use Rattle.ss_recover.proofs.Marks.{are_marks-marks_of, in_order-marks_of, landmarks_made-marks_of, length-marks_of, marks_of}
-use Rattle.ss_recover.proofs.SoundStreams.{keep_step-IsInStep, own_step-apart, own_step-moved, Rise-AreWindows, stands_alone, stands_alone-each}
+use Rattle.ss_recover.proofs.SoundStreams.{keep_step-IsInStep, own_step-apart, own_step-moved, Rise-AreWindows, stands_alone-each}
 use Rattle.ss_recover.proofs.SoundStreams.{stands_alone-moved, tile-AreWindows, times_rise-AreWindows}
 use Rattle.ss_recover.proofs.SoundNumbers.{is_sound-from, none_bad-AreSound}
 
@@ -125,17 +124,12 @@ module _ (streams : List Stream) (records : List Record) (state : IsState stream
       let Kept : Stream → Type 0 = λ s. IsStream s × (keep_own_step s.number (map created streams) s.windows ≡ true) in
       let All : Stream → Type 0 = λ s. Both s × Kept s in
       all_both _ _ _ (λ s one all.
-      let windows = all.0.0.0 in
-      let landmarks = all.0.0.1 in
-      let d : tile (windows_carried s.number records) ≡ true = ap tile windows ∙ tile-AreWindows s.windows all.1.0.windows in
-      let e : times_rise (windows_carried s.number records) ≡ true = ap times_rise windows ∙ times_rise-AreWindows s.windows all.1.0.windows in
-      let f : are_marks (marks_carried s.number records) ≡ true = ap are_marks all.0.1 ∙ are_marks-marks_of s.number s.landmarks all.1.0.landmarks in
-      let g : list_all (lies_free (landmarks_made (marks_carried s.number records))) (windows_carried s.number records) ≡ true =
-      ap₂ (λ ls ws. list_all (lies_free ls) ws) landmarks windows ∙ all.1.0.free in
-      let h : keep_own_step s.number (streams_created records) (windows_carried s.number records) ≡ true =
-      ap (keep_own_step s.number (streams_created records)) windows
-      ∙ sym (own_step-moved s.number s.windows (map created streams) (streams_created records) moved) ∙ all.1.1 in
-      is_sound-from records s.number one (or_right _ _ (and_from _ _ (and_from _ _ (and_from _ _ (and_from _ _ d e) f) g) h)))
+      let windows = all.1.0.windows in
+      let free = ap (λ ls. list_all (lies_free ls) s.windows) (landmarks_made-marks_of s.number s.landmarks) ∙ all.1.0.free in
+      let steps = sym (own_step-moved s.number s.windows (map created streams) (streams_created records) moved) ∙ all.1.1 in
+      is_sound-from records s.number one (or_right _ _ (ap₂ (stands_sound s.number (streams_created records)) all.0.0.0 all.0.1
+      ∙ and_from _ _ (and_from _ _ (and_from _ _ (and_from _ _ (tile-AreWindows s.windows windows) (times_rise-AreWindows s.windows windows))
+      (are_marks-marks_of s.number s.landmarks all.1.0.landmarks)) free) steps)))
       streams alone (all_both Both Kept All (λ s both is. (both, is)) streams
       (all_both _ _ _ (λ s carries marks. (carries, marks)) streams carries_each
       marks_are) (all_both _ _ _ (λ s is keep. (is, keep)) streams each_is keep_each))

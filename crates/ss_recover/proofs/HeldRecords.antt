@@ -5,7 +5,7 @@ use Rattle.ss_recover.proofs.Common.{filter-append, filter_map, filter_map-appen
 use Rattle.ss_recover.proofs.Common.{IsPermutation, IsPermutation-map, IsPermutation-refl, IsPermutation-trans, landmark_records, length}
 use Rattle.ss_recover.proofs.Common.{length-append, length-map, List, list_any, list_any-IsPermutation, map, map-append, map-map, mark_slots, marks_held, None}
 use Rattle.ss_recover.proofs.Common.{occupied, Option, range_with_len, Record, records_held, records_in, refl, seconds-zip, SlotMap, slots_held, Some}
-use Rattle.ss_recover.proofs.Common.{span_held, span_of, stands_by, Stream, stream_number, stream_of, stream_record, StreamParts, subst, sym, Value, Window}
+use Rattle.ss_recover.proofs.Common.{span_held, span_of, stands_by, Stream, stream_number, stream_of, stream_record, StreamParts, subst, sym, Window}
 use Rattle.ss_recover.proofs.Common.{window_of, window_record, window_slots, zip, ℕ, ℤ}
 use Rattle.ss_recover.specs.Carried.{spelled}
 use Rattle.ss_recover.proofs.InOrder.{Rise, Rise-split}

@@ -1,5 +1,5 @@
 -- What the three conditions on records of landmarks say: they are the records of the landmarks that they make.
-use Rattle.ss_recover.proofs.Common.{[], ◌&&◌, ◌++◌, ◌+◌, ◌<◌, ◌==◌, ◌||◌, ◌∙◌, ◌∷◌, ◌≡◌, ◌≤◌, All, All-nil, AllByRecursion, and_parts, ap, are_counted}
+use Rattle.ss_recover.proofs.Common.{[], ◌&&◌, ◌++◌, ◌+◌, ◌==◌, ◌||◌, ◌∙◌, ◌∷◌, ◌≡◌, ◌≤◌, All, All-nil, AllByRecursion, and_parts, ap, are_counted}
 use Rattle.ss_recover.proofs.Common.{are_in_time, are_marks, are_numbered, AreLandmarks, arith, eq-eqb, eqb-true, free_from, FollowFrom, HasValidTimes}
 use Rattle.ss_recover.proofs.Common.{is_mark_of, is_none, IsLandmark, IsUsable, Landmark, landmarks_made, LandmarkValue, later, latest_in, latest_of, leb-true}
 use Rattle.ss_recover.proofs.Common.{length, List, marks_in, MatchOption, None, opens_from, Option, Record, refl, rise_within, RiseFrom, Some, stream_of, sym}

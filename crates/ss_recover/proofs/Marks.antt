@@ -1,6 +1,6 @@
 -- The records of landmarks in order, each landmark's before those of its values: the landmarks that they make, and the order of places.
 use Rattle.ss_parts.proofs.MarkRecords.{length-value_records}
-use Rattle.ss_recover.proofs.Common.{[], ◌&&◌, ◌*◌, ◌++◌, ◌+◌, ◌<◌, ◌==◌, ◌^◌, ◌||◌, ◌∙◌, ◌∷◌, ◌≡◌, ◌≤◌, All, all_value_records, all_values, AllByRecursion}
+use Rattle.ss_recover.proofs.Common.{[], ◌*◌, ◌++◌, ◌+◌, ◌<◌, ◌==◌, ◌^◌, ◌||◌, ◌∙◌, ◌∷◌, ◌≡◌, ◌≤◌, All, all_value_records, all_values, AllByRecursion}
 use Rattle.ss_recover.proofs.Common.{and_from, ap, append_assoc, are_counted, are_in_time, are_marks, are_numbered, AreLandmarks, arith, eq-eqb, filter}
 use Rattle.ss_recover.proofs.Common.{FollowFrom, free_from, IfSome, in_order, is_mark_of, is_none, is_up_to, IsLandmark, IsPermutation}
 use Rattle.ss_recover.proofs.Common.{IsPermutation-append_comm, IsPermutation-append_left, IsPermutation-append_right, IsPermutation-cons, IsPermutation-refl}

@@ -1,10 +1,10 @@
 -- What is held of a stream agrees with the one that its records make, and has these records.
 use Rattle.ss_recover.proofs.Common.{[], ◌&&◌, ◌++◌, ◌+◌, ◌∙◌, ◌∷◌, ◌≡◌, Agrees, all_value_records, AllAgree, AllByRecursion, ap, append-nil, append_assoc}
-use Rattle.ss_recover.proofs.Common.{ap₂, Bool, cond, Created, Entry, false, filter, filter-append, filter-map, flat_map, Found, found_by, Free, in_slots}
+use Rattle.ss_recover.proofs.Common.{ap₂, Bool, cond, Created, Entry, false, filter, filter-append, filter-map, flat_map, Found, found_by, in_slots}
 use Rattle.ss_recover.proofs.Common.{is_landmark, is_own, is_value, is_window, IsHeldOf, IsPermutation, IsPermutation-append_comm, IsPermutation-cons}
 use Rattle.ss_recover.proofs.Common.{IsPermutation-map, IsPermutation-trans, IsUsable, Landmark, landmark_record, landmark_records, landmarks_made}
 use Rattle.ss_recover.proofs.Common.{LandmarkValue, later, latest_of, List, map, map-append, map-map, marks_in, newest_time, not, Record}
-use Rattle.ss_recover.proofs.Common.{records_held, refl, slots_found, Some, Stream, stream_made, stream_record, StreamParts, subst, sym, true, Value}
+use Rattle.ss_recover.proofs.Common.{records_held, refl, slots_found, Some, Stream, stream_made, stream_record, StreamParts, subst, sym, true}
 use Rattle.ss_recover.proofs.Common.{value_records, Window, window_record, windows_held, windows_in, with_slot, without_slots, zip, ℕ}
 use Rattle.ss_line.specs.declared.entry.At.{At}
 use Rattle.ss_recover.proofs.Marks.{each-mark_of, marks_of}

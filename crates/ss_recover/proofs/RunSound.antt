@@ -1,13 +1,12 @@
 -- The records of a number are sound, among those of others, where they are a run.
 use Rattle.ss_recover.proofs.Common.{[], ◌&&◌, ◌*◌, ◌++◌, ◌+◌, ◌<◌, ◌==◌, ◌^◌, ◌||◌, ◌∙◌, ◌∷◌, ◌≡◌, ◌≤◌, AllByRecursion, and-true, and_right, ap, append-nil}
-use Rattle.ss_recover.proofs.Common.{ap₂, are_marks, arith, Bool, cond_both, Created, created_by, drop, each-behind, each-front, eq-eqb, eqb-true, false}
-use Rattle.ss_recover.proofs.Common.{filter-append, filter_map, filter_map-append, Found, found_key, found_number, Free, has_new_name, has_one_record}
-use Rattle.ss_recover.proofs.Common.{has_place, has_sound_values_in_order, has_sound_values_within, is_drop_of, is_dropped, is_mark_of, is_own, is_run}
-use Rattle.ss_recover.proofs.Common.{is_sound_in_order, IsUsable, keep_own_step, keep_step, landmarks_made, length, length-map, lies_free, List}
-use Rattle.ss_recover.proofs.Common.{list_all, list_any, list_any-append, map, map-append, marks_in, MOST_STREAMS, nat_lt, nat_tests, ne_eqb, not, or-false}
-use Rattle.ss_recover.proofs.Common.{or_from, run_len, place_of, Record, refl, Rises, same_name, step_number, stream_of, streams_created, subst, suc}
-use Rattle.ss_recover.proofs.Common.{sym, take, take-append-drop, tile, times_rise, true, Value, Window, window_of, window_record, windows_in, without_slots}
-use Rattle.ss_recover.proofs.Common.{ℕ}
+use Rattle.ss_recover.proofs.Common.{ap₂, are_sound, arith, Bool, cond_both, Created, created_by, drop, each-behind, each-front, eq-eqb, eqb-true, false}
+use Rattle.ss_recover.proofs.Common.{filter-append, filter_map, filter_map-append, Found, found_key, found_number, has_new_name, has_sound_values_within}
+use Rattle.ss_recover.proofs.Common.{is_drop_of, is_dropped, is_mark_of, is_own, is_run, is_sound_in_order, IsUsable, keep_own_step, keep_step, length}
+use Rattle.ss_recover.proofs.Common.{length-map, List, list_any, list_any-append, map, map-append, marks_in, MOST_STREAMS, nat_lt, nat_tests, ne_eqb, not}
+use Rattle.ss_recover.proofs.Common.{or-false, or_from, place_of, Record, refl, Rises, run_len, same_name, stands_alone, stands_sound, step_number, stream_of}
+use Rattle.ss_recover.proofs.Common.{streams_created, subst, suc, sym, take, take-append-drop, true, Window, window_of, window_record, windows_in}
+use Rattle.ss_recover.proofs.Common.{without_slots, ℕ}
 use Rattle.ss_model.proofs.FoundLemmas.{each-append}
 use Rattle.ss_codec.specs.declared.record.Record.TheVariants as records
 use Rattle.ss_parts.proofs.Lists.{all_both, all_weaker, map-all}
@@ -184,28 +183,22 @@ module _ (front run back : List Record) (n : ℕ) (lower : AllByRecursion (λ r.
       list_any-append (is_drop_of n) front (run ++ back) ∙ ap (λ b. b || is_dropped n (run ++ back)) (drops-apart n front front-apart)
       ∙ list_any-append (is_drop_of n) run back ∙ ap (λ b. is_dropped n run || b) (drops-apart n back back-apart) ∙ or-false (is_dropped n run)
 
-  -- what its windows and landmarks meet
-  abbrev meets_values : Bool
-  meets_values =
-      tile (windows n run) && times_rise (windows n run) && are_marks (marks n run)
-      && list_all (lies_free (landmarks_made (marks n run))) (windows n run) && keep_own_step n here (windows n run)
-
   -- they are sound where the streams, of which so many are of the number, and the other records are
   sound-parts : is_sound_in_order all n
-      ≡ ((length here == 1) && nat_lt (length cs) MOST_STREAMS && has_new_name n (cs ++ (here ++ later)) && (is_dropped n run || meets_values))
+      ≡ ((length here == 1) && nat_lt (length cs) MOST_STREAMS && has_new_name n (cs ++ (here ++ later))
+      && (is_dropped n run || stands_sound n here (windows n run) (marks n run)))
   sound-parts =
       let one = count-at cs here later n cs-below here-own later-above in
       let place = count-below cs here later n cs-below here-own later-above in
       let keep = own_step-parts n (windows n run) cs here later cs-below later-above in
-      (λ i. has_one_record n (created-parts i) && has_place n (created-parts i) && has_new_name n (created-parts i)
-      && (dropped-own i || (tile (windows-own i) && times_rise (windows-own i) && are_marks (marks-own i)
-      && list_all (lies_free (landmarks_made (marks-own i))) (windows-own i) && keep_own_step n (created-parts i) (windows-own i))))
+      (λ i. stands_alone n (created-parts i) && (dropped-own i || stands_sound n (created-parts i) (windows-own i) (marks-own i)))
       ∙ (λ i. (one i == 1) && nat_lt (place i) MOST_STREAMS && has_new_name n (cs ++ (here ++ later))
-      && (is_dropped n run || (has_sound_values_in_order run n && keep i)))
+      && (is_dropped n run || (are_sound (windows n run) (marks n run) && keep i)))
 
   sound-never : (length here ≡ 1 → ⊥) → is_sound_in_order all n ≡ false
   sound-never other =
-      sound-parts ∙ ap (λ b. b && nat_lt (length cs) MOST_STREAMS && has_new_name n (cs ++ (here ++ later)) && (is_dropped n run || meets_values))
+      sound-parts ∙ ap (λ b. b && nat_lt (length cs) MOST_STREAMS && has_new_name n (cs ++ (here ++ later))
+      && (is_dropped n run || stands_sound n here (windows n run) (marks n run)))
       (ne_eqb (length here) 1 other)
 
 -- the records of a number are sound where they are a run
@@ -230,7 +223,7 @@ is_run-sound front (records.Stream id name params dropped) rest back lower own a
           ap (λ us. keep_own_step id (c ∷ us) (windows id rest)) none ∙ own_step-one id (windows id rest) c refl in
           sound-parts front (r ∷ rest) back id lower (refl, own) above
           ∙ (λ i. (few i == 1) && nat_lt (sym (length-map cs (λ (o : Created). o.name)) i) MOST_STREAMS && new i
-          && (((dropped && eq-eqb id id refl i) || is_dropped id rest) || (has_sound_values_in_order rest id && keep i)))
+          && (((dropped && eq-eqb id id refl i) || is_dropped id rest) || (are_sound (windows id rest) (marks id rest) && keep i)))
           ∙ ap (λ b. nat_lt (length names) MOST_STREAMS && not (list_any (same_name name) names) && b) (asked dropped true (is_dropped id rest)
           (list_any is_own rest) (has_sound_values_within (step_number params.within) rest id) refl (alone-drops id rest none)
           (own-any rest ∙ ap (list_any (λ c. true)) none))

@@ -1,6 +1,6 @@
 -- Records of dropped streams and those of streams that stand, and the streams and the names that records make.
 use Rattle.ss_recover.proofs.Common.{[], ◌&&◌, ◌++◌, ◌∙◌, ◌∷◌, ◌≡◌, AllByRecursion, and-false, and-true, ap, Bool, cases_Bool, cond, Created, created_by}
-use Rattle.ss_recover.proofs.Common.{false, filter, filter_map-append, Found, Free, if◌then◌else◌, inl, inr, is_doomed, is_dropped, is_own, IsPermutation}
+use Rattle.ss_recover.proofs.Common.{false, filter, filter_map-append, Found, if◌then◌else◌, inl, inr, is_doomed, is_dropped, is_own, IsPermutation}
 use Rattle.ss_recover.proofs.Common.{IsPermutation-append_left, IsPermutation-sym, IsPermutation-trans, IsUsable, List, map, map-append, not, Record, refl}
 use Rattle.ss_recover.proofs.Common.{stands_by, stream_made, stream_of, streams_created, streams_made, streams_standing, subst, true, ℕ}
 use Rattle.ss_recover.proofs.RunSound.{names_created}

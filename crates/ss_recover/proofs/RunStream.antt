@@ -1,13 +1,13 @@
 -- Streams that records in order are of, one run after another.
 use Rattle.ss_recover.proofs.Common.{[], ◌&&◌, ◌++◌, ◌+◌, ◌<◌, ◌||◌, ◌∙◌, ◌∷◌, ◌≡◌, ◌≤◌, All-from_recursion, AllByRecursion, and-true, and_parts, ap}
-use Rattle.ss_recover.proofs.Common.{append_assoc, ap₂, are_marks, arith, Bool, cond, count_by-le-length, Created, created_by, drop, each-behind, eq-eqb}
-use Rattle.ss_recover.proofs.Common.{false, filter-append, filter_map, Found, found_key, found_number, has_sound_values_in_order, is_dropped, is_mark_of}
-use Rattle.ss_recover.proofs.Common.{is_own, is_run, is_sound_in_order, IsDistinct, IsDistinct-cons, IsDistinct-from_apart, IsState, IsStream, IsUsable}
-use Rattle.ss_recover.proofs.Common.{keep_step, landmarks_made, length, length-append, length-drop, length-filter, length-map, lies_free, List, list_all}
-use Rattle.ss_recover.proofs.Common.{list_any, list_any-append, live, ltb-true, map, map-append, marks_in, MOST_RECORDS, MOST_STREAMS, names_of, nat_lt, not}
-use Rattle.ss_recover.proofs.Common.{not-true, or-false, or_parts, run_len, Record, records_of, refl, Rises, same_name, same_name-swap, step_number, Stream}
-use Rattle.ss_recover.proofs.Common.{stream_made, stream_of, streams_made, streams_standing, subst, suc, sum_by-cons, sym, take, take-append-drop, tile}
-use Rattle.ss_recover.proofs.Common.{times_rise, true, Window, window_record, windows_in, without_slots, zero, ℕ}
+use Rattle.ss_recover.proofs.Common.{append_assoc, ap₂, are_marks, are_sound, arith, Bool, cond, count_by-le-length, Created, created_by, drop, each-behind}
+use Rattle.ss_recover.proofs.Common.{eq-eqb, false, filter-append, filter_map, Found, found_key, found_number, is_dropped, is_mark_of, is_own, is_run}
+use Rattle.ss_recover.proofs.Common.{is_sound_in_order, IsDistinct, IsDistinct-cons, IsDistinct-from_apart, IsState, IsStream, IsUsable, keep_step}
+use Rattle.ss_recover.proofs.Common.{landmarks_made, length, length-append, length-drop, length-filter, length-map, lies_free, List, list_all, list_any}
+use Rattle.ss_recover.proofs.Common.{list_any-append, live, ltb-true, map, map-append, marks_in, MOST_RECORDS, MOST_STREAMS, names_of, nat_lt, not, not-true}
+use Rattle.ss_recover.proofs.Common.{or-false, or_parts, Record, refl, Rises, run_len, same_name, same_name-swap, step_number, Stream, stream_made, stream_of}
+use Rattle.ss_recover.proofs.Common.{streams_made, streams_standing, subst, suc, sum_by-cons, sym, take, take-append-drop, tile, times_rise, true, Window}
+use Rattle.ss_recover.proofs.Common.{window_record, windows_in, without_slots, zero, ℕ}
 use Rattle.ss_recover.proofs.HeldRecords.{all_walked, walked}
 use Rattle.ss_recover.proofs.InOrder.{increasing-Rise, Rise}
 use Rattle.ss_recover.proofs.Marks.{length-marks_of, marks_of}
@@ -144,7 +144,7 @@ module _ (all front : List Found) (slot : ℕ) (head : Created) (rest back : Lis
   abbrev ws : List Window
   ws = windows_in head.number (without_slots rest)
 
-  asked : (has_sound_values_in_order (without_slots rest) head.number ≡ true) × (keep_step (step_number head.params.within) ws ≡ true)
+  asked : (are_sound ws ms ≡ true) × (keep_step (step_number head.params.within) ws ≡ true)
   asked = and_parts _ _ (and_parts _ _ (and_parts _ _ run).1).1
 
   meets : ((tile ws && times_rise ws && are_marks ms) ≡ true) × (list_all (lies_free (landmarks_made ms)) ws ≡ true)

@@ -1,13 +1,13 @@
 -- Which numbers are sound in some records, where they are in others that have the same of them.
-use Rattle.ss_recover.proofs.Common.{[], ◌&&◌, ◌+◌, ◌==◌, ◌||◌, ◌∙◌, ◌∷◌, ◌≡◌, ◌≤◌, ◌⊎◌, AllByRecursion, and_from, and_parts, ap, are_marks, arith, Bool}
-use Rattle.ss_recover.proofs.Common.{carries, cases_Bool, cond, cond-true, cons_option, count_by, Created, created_by, eqb-true, false, false_from_ne_true}
-use Rattle.ss_recover.proofs.Common.{filter, filter_map, Free, has_sound_values, in_order, inl, inr, is_drop_of, is_dropped, is_mark_of, judged, keep_own_step}
-use Rattle.ss_recover.proofs.Common.{landmarks_made, lies_free, List, list_all, list_any, lowest_bad_stream, lowest_in, map, marks_carried, None, not, Option}
-use Rattle.ss_recover.proofs.Common.{option_map_or, or_cases, or_left, or_parts, or_right, place_of, Record, refl, Some, stands_by, stands_sound, Stream}
-use Rattle.ss_recover.proofs.Common.{stream_carried, stream_number, streams_carried, streams_created, streams_standing, sum_by-cons, sym, tile, times_rise}
-use Rattle.ss_recover.proofs.Common.{true, true≢false, Window, window_of, windows_carried, ℕ}
+use Rattle.ss_recover.proofs.Common.{[], ◌&&◌, ◌+◌, ◌==◌, ◌||◌, ◌∙◌, ◌∷◌, ◌≡◌, ◌≤◌, ◌⊎◌, AllByRecursion, and_from, and_parts, ap, ap₂, arith, Bool, carries}
+use Rattle.ss_recover.proofs.Common.{cases_Bool, cond, cond-true, cons_option, count_by, Created, created_by, eqb-true, false, false_from_ne_true, filter}
+use Rattle.ss_recover.proofs.Common.{filter_map, in_order, inl, inr, is_drop_of, is_dropped, is_mark_of, judged, keep_own_step, landmarks_made, List, list_any}
+use Rattle.ss_recover.proofs.Common.{lowest_bad_stream, lowest_in, map, marks_carried, None, not, Option, option_map_or, or_cases, or_left, or_parts, or_right}
+use Rattle.ss_recover.proofs.Common.{place_of, Record, refl, Some, stands_alone, stands_by, stands_sound, Stream, stream_carried, stream_number}
+use Rattle.ss_recover.proofs.Common.{streams_carried, streams_created, streams_standing, sum_by-cons, sym, true, true≢false, Window, window_of, windows_carried}
+use Rattle.ss_recover.proofs.Common.{ℕ}
 use Rattle.ss_recover.specs.Conditions.{is_sound}
-use Rattle.ss_recover.proofs.SoundStreams.{digit, stands_alone}
+use Rattle.ss_recover.proofs.SoundStreams.{digit}
 use Rattle.ss_codec.specs.declared.record.Record.TheVariants as records
 use Rattle.ss_parts.proofs.Lists.{all_weaker, any-made, filter_map-kept, kept}
 
@@ -56,12 +56,6 @@ windows-same n rs us same = ap (in_order (λ (w : Window). w.first)) same.window
 marks-same : (n : ℕ) (rs us : List Record) → HaveSameValues n rs us → marks_carried n rs ≡ marks_carried n us
 marks-same n rs us same = ap (in_order place_of) same.marks
 
-sound_values-same : (n : ℕ) (rs us : List Record) → HaveSameValues n rs us → has_sound_values rs n ≡ has_sound_values us n
-sound_values-same n rs us same =
-    let ordered = windows-same n rs us same in
-    let marked = marks-same n rs us same in
-    λ i. tile (ordered i) && times_rise (ordered i) && are_marks (marked i) && list_all (lies_free (landmarks_made (marked i))) (ordered i)
-
 pub stream_carried-same : (rs us : List Record) (c : Created) → HaveSameValues c.number rs us → stream_carried rs c ≡ stream_carried us c
 stream_carried-same rs us c same =
     let ordered = windows-same c.number rs us same in
@@ -69,13 +63,16 @@ stream_carried-same rs us c same =
     λ i. record { number = c.number; name = c.name; params = c.params; windows = ordered i; landmarks = landmarks_made (marked i) }
 
 -- what meets all conditions
+abbrev stands : ℕ → List Record → Bool
+stands n rs = stands_sound n (streams_created rs) (windows_carried n rs) (marks_carried n rs)
+
 pub is_sound-from : (rs : List Record) (n : ℕ) → stands_alone n (streams_created rs) ≡ true →
-    (is_dropped n rs || stands_sound rs n) ≡ true → is_sound rs n ≡ true
+    (is_dropped n rs || stands n rs) ≡ true → is_sound rs n ≡ true
 unfolding is_sound
 is_sound-from rs n alone values = and_from _ _ alone values
 
 pub is_sound-parts : (rs : List Record) (n : ℕ) → is_sound rs n ≡ true →
-    (stands_alone n (streams_created rs) ≡ true) × ((is_dropped n rs || stands_sound rs n) ≡ true)
+    (stands_alone n (streams_created rs) ≡ true) × ((is_dropped n rs || stands n rs) ≡ true)
 unfolding is_sound
 is_sound-parts rs n sound = and_parts _ _ sound
 
@@ -98,9 +95,9 @@ module _ (rs us : List Record) (same : (Y : Type 0) (f : Record → Option Y) �
       let is = values-made n in
       let created = same Created created_by refl in
       let gone = any-made (is_drop_of n) rs us (same Record (kept (is_drop_of n)) refl) in
-      let values = sound_values-same n rs us is in
       let ordered = windows-same n rs us is in
-      λ i. stands_alone n (created i) && (gone i || (values i && keep_own_step n (created i) (ordered i)))
+      let marked = marks-same n rs us is in
+      λ i. stands_alone n (created i) && (gone i || stands_sound n (created i) (ordered i) (marked i))
 
   pub lowest-made : lowest_bad_stream rs ≡ lowest_bad_stream us
   lowest-made = let numbers = same ℕ stream_number refl in λ i. lowest_in (filter (λ m. not (is_sound-made m i)) (numbers i))
@@ -112,21 +109,15 @@ pub is_sound-kept : (rs us : List Record) (n : ℕ) → (stands_alone n (streams
     is_sound rs n ≡ true → is_sound us n ≡ true
 is_sound-kept rs us n alone keeps gone same sound =
     let parts = is_sound-parts rs n sound in
-    is_sound-from us n (alone parts.0) (go same parts.1)
+    is_sound-from us n (alone parts.0) (go same (or_cases _ _ parts.1))
   where
-    kept : HaveSameValues n rs us → stands_sound rs n ≡ true → stands_sound us n ≡ true
-    kept same fine =
-        let both = and_parts _ _ fine in
-        and_from _ _ (sym (sound_values-same n rs us same) ∙ both.0)
-        (keeps (windows_carried n us) (ap (keep_own_step n (streams_created rs)) (sym (windows-same n rs us same)) ∙ both.1))
-
-    go : (is_dropped n us ≡ true) ⊎ HaveSameValues n rs us → (is_dropped n rs || stands_sound rs n) ≡ true →
-        (is_dropped n us || stands_sound us n) ≡ true
+    go : (is_dropped n us ≡ true) ⊎ HaveSameValues n rs us → (is_dropped n rs ≡ true) ⊎ (stands n rs ≡ true) → (is_dropped n us || stands n us) ≡ true
     go (inl is) values = or_left _ _ is
-    go (inr same) values = elim (or_cases _ _ values) [
-      | inl is ↦ or_left _ _ (gone is)
-      | inr fine ↦ or_right _ _ (kept same fine)
-    ]
+    go (inr same) (inl is) = or_left _ _ (gone is)
+    go (inr same) (inr fine) =
+        let ordered = windows-same n rs us same in
+        let both = and_parts _ _ (sym (ap₂ (stands_sound n (streams_created rs)) ordered (marks-same n rs us same)) ∙ fine) in
+        or_right _ _ (and_from _ _ both.0 (keeps (windows_carried n us) both.1))
 
 -- ---- one record of a number, which says whether its stream was dropped
 

@@ -7,8 +7,8 @@ use Rattle.ss_recover.proofs.Common.{eqb-true, false, has_new_name, has_one_reco
 use Rattle.ss_recover.proofs.Common.{IsDistinct-tail, IsInStep, IsPermutation, IsPossible, keep_own_step, keep_step, le-ltb, leb-true, length, length-append}
 use Rattle.ss_recover.proofs.Common.{length-filter, List, list_all, list_all-append, list_any, list_any-append, list_any-IsPermutation, lt-ltb, ltb-true, map}
 use Rattle.ss_recover.proofs.Common.{MOST_STREAMS, MOST_VALUES, nat_le, nat_lt, nat_tests, ne_eqb, not, or-false, or_from, or_left, Params, recursion_from_All}
-use Rattle.ss_recover.proofs.Common.{refl, rule_of, same_name, same_name-swap, StandFrom, step_number, subst, sum_by-append, sum_by-IsPermutation, sym, taken}
-use Rattle.ss_recover.proofs.Common.{tile, tile_from, times_rise, true, Window, ℕ}
+use Rattle.ss_recover.proofs.Common.{refl, rule_of, same_name, same_name-swap, StandFrom, stands_alone, step_number, subst, sum_by-append, sum_by-IsPermutation}
+use Rattle.ss_recover.proofs.Common.{sym, taken, tile, tile_from, times_rise, true, Window, ℕ}
 use Rattle.ss_recover.proofs.InOrder.{Rise, Rise-split}
 
 -- 1 where a test passes
@@ -96,10 +96,6 @@ module _ (cs here later : List Created) (n : ℕ) (cs-below : AllByRecursion (λ
           ap₂ (λ (x y : Bool). x || y)
           (ap (λ b. b && same_name u.name c.name) (lt-ltb u.number c.number (let lt = lows.0 in omega (arith, lt, is))) ∙ same_name-swap u.name c.name)
           (by-name us lows.1)
-
--- a stream has one record, a place and a name that is new
-abbrev pub stands_alone : ℕ → List Created → Bool
-stands_alone n us = has_one_record n us && has_place n us && has_new_name n us
 
 -- where numbers rise and names differ, each does
 new-split : (xs : List Created) (y : Created) (ys : List Created) → IsDistinct same_name (map (λ c. c.name) (xs ++ y ∷ ys)) →

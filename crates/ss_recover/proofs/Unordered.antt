@@ -1,12 +1,12 @@
 -- Which numbers are sound doesn't hang on the order of the records.
-use Rattle.ss_recover.proofs.Common.{[], ◌&&◌, ◌*◌, ◌+◌, ◌<◌, ◌==◌, ◌^◌, ◌||◌, ◌∙◌, ◌∷◌, ◌≡◌, ◌≤◌, ◌⊎◌, All-from_recursion, All-permutation, AllByRecursion}
-use Rattle.ss_recover.proofs.Common.{ap, ap₂, are_marks, arith, Bool, cases_Bool, cases_lt, cond-false, cond-true, cond_both, cons_option, Created, created_by}
-use Rattle.ss_recover.proofs.Common.{eq-eqb, eqb-true, false, filter, filter_map, fold, Free, in_order, inl, inr, is_drop_of, is_mark_of, is_sound_in_order}
-use Rattle.ss_recover.proofs.Common.{IsLowestUnsound, IsPermutation, IsPermutation-sym, IsUsable, keep_own_step, key_of, landmarks_made, le-leb, leb}
-use Rattle.ss_recover.proofs.Common.{leb-false, leb-true, lies_free, List, list_all, list_any, list_any-IsPermutation, lowest_bad_stream, lowest_in, lt-leb}
-use Rattle.ss_recover.proofs.Common.{map, marks_carried, min, None, not, Option, or_cases, or_left, or_right, place_of, put_in_order, Record}
-use Rattle.ss_recover.proofs.Common.{recursion_from_All, refl, Rises, Some, stands_by, stream_number, stream_of, streams_carried, streams_created}
-use Rattle.ss_recover.proofs.Common.{streams_made, streams_standing, sym, tile, times_rise, true, true≢false, Window, window_of, windows_carried, ℕ}
+use Rattle.ss_recover.proofs.Common.{[], ◌&&◌, ◌*◌, ◌+◌, ◌<◌, ◌==◌, ◌^◌, ◌||◌, ◌∙◌, ◌∷◌, ◌≡◌, ◌≤◌, ◌⊎◌, All-from_recursion, All-permutation, AllByRecursion, ap}
+use Rattle.ss_recover.proofs.Common.{ap₂, are_sound, arith, Bool, cases_Bool, cases_lt, cond-false, cond-true, cond_both, cons_option, Created, created_by}
+use Rattle.ss_recover.proofs.Common.{eq-eqb, eqb-true, false, filter, filter_map, fold, in_order, inl, inr, is_drop_of, is_mark_of, is_sound_in_order}
+use Rattle.ss_recover.proofs.Common.{IsLowestUnsound, IsPermutation, IsPermutation-sym, IsUsable, keep_own_step, key_of, landmarks_made, le-leb, leb, leb-false}
+use Rattle.ss_recover.proofs.Common.{leb-true, List, list_any, list_any-IsPermutation, lowest_bad_stream, lowest_in, lt-leb, map, marks_carried, min, None, not}
+use Rattle.ss_recover.proofs.Common.{Option, or_cases, or_left, or_right, place_of, put_in_order, Record, recursion_from_All, refl, Rises, Some, stands_by}
+use Rattle.ss_recover.proofs.Common.{stream_number, stream_of, streams_carried, streams_created, streams_made, streams_standing, sym, true, true≢false, Window}
+use Rattle.ss_recover.proofs.Common.{window_of, windows_carried, ℕ}
 use Rattle.ss_recover.specs.Conditions.{is_sound}
 use Rattle.ss_recover.proofs.InOrder.{IsPermutation-in_order, Rises-in_order, put-less, put-more}
 use Rattle.ss_recover.proofs.SoundStreams.{own_step-moved, stands_alone-moved}
@@ -150,8 +150,7 @@ is_sound-in_order rs n =
     let gone = list_any-IsPermutation (is_drop_of n) rs qs (IsPermutation-in_order key_of rs) in
     let keeps : (ws : List Window) → keep_own_step n (streams_created rs) ws ≡ keep_own_step n (streams_created qs) ws =
     λ ws. own_step-moved n ws (streams_created rs) (streams_created qs) moved in
-    λ i. alone i && (gone i || (tile (windows i) && times_rise (windows i) && are_marks (marks i)
-    && list_all (lies_free (landmarks_made (marks i))) (windows i) && keeps (windows i) i))
+    λ i. alone i && (gone i || (are_sound (windows i) (marks i) && keeps (windows i) i))
 
 -- the least of some numbers
 fold-least : (n a : ℕ) (xs : List ℕ) → n ≤ a → AllByRecursion (λ x. n ≤ x) xs → (a ≡ n) ⊎ (list_any (λ x. x == n) xs ≡ true) → fold min a xs ≡ n

@@ -53,23 +53,26 @@ keep_step step ws = list_all (λ w. in_step step w.summary.t_first w.summary.t_l
 abbrev pub keep_own_step : ℕ → List Created → List Window → Bool
 keep_own_step number streams ws = list_all (λ s. not (s.number == number) || keep_step (step_number s.params.within) ws) streams
 
--- its windows and its landmarks meet theirs
-abbrev pub has_sound_values : List Record → ℕ → Bool
-has_sound_values records number =
-    tile (windows_carried number records)
-    && times_rise (windows_carried number records)
-    && are_marks (marks_carried number records)
-    && list_all (lies_free (landmarks_made (marks_carried number records))) (windows_carried number records)
+-- a stream has one record, a place and a name that is new
+abbrev pub stands_alone : ℕ → List Created → Bool
+stands_alone number streams = has_one_record number streams && has_place number streams && has_new_name number streams
 
--- they do, and its windows keep to its step
-abbrev pub stands_sound : List Record → ℕ → Bool
-stands_sound records number =
-    has_sound_values records number && keep_own_step number (streams_created records) (windows_carried number records)
+-- windows and the records of landmarks meet theirs
+abbrev pub are_sound : List Window → List Record → Bool
+are_sound windows marks =
+    tile windows && times_rise windows && are_marks marks && list_all (lies_free (landmarks_made marks)) windows
 
--- The records of the number meet all conditions. Of a dropped stream nothing is asked of its windows and its landmarks.
+-- they do, and the windows keep to the step of the stream record with the number
+abbrev pub stands_sound : ℕ → List Created → List Window → List Record → Bool
+stands_sound number streams windows marks = are_sound windows marks && keep_own_step number streams windows
+
+-- The records of the number meet all conditions, where these are its windows and the records of its landmarks. Of a dropped stream
+-- nothing is asked of them.
+abbrev pub is_sound_with : List Record → ℕ → List Window → List Record → Bool
+is_sound_with records number windows marks =
+    stands_alone number (streams_created records)
+    && (is_dropped number records || stands_sound number (streams_created records) windows marks)
+
+-- They do, whatever the order of the records.
 unfoldable pub is_sound : List Record → ℕ → Bool
-is_sound records number =
-    has_one_record number (streams_created records)
-    && has_place number (streams_created records)
-    && has_new_name number (streams_created records)
-    && (is_dropped number records || stands_sound records number)
+is_sound records number = is_sound_with records number (windows_carried number records) (marks_carried number records)

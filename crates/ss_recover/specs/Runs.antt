@@ -2,22 +2,21 @@
 use Rattle.std.specs.Prelude.{◌≡◌, ℕ, ◌<◌, Bool, true, false, not, ◌==◌, ◌&&◌, ◌||◌, nat_lt, List, [], ◌∷◌, length, filter, flat_map, zip}
 use Rattle.std.specs.Prelude.{◌++◌}
 use Rattle.std.specs.Prelude.{map, Result, Ok, Err, ⊤}
-use Rattle.std.specs.List.{AllByRecursion, filter_map, list_all, list_any}
+use Rattle.std.specs.List.{AllByRecursion, filter_map, list_any}
 use Rattle.std.specs.List.Sorted.{IsPermutation}
 use Rattle.ss_catalog.specs.Names.{same_name}
 use Rattle.ss_catalog.specs.Params.{step_number}
 use Rattle.ss_catalog.specs.declared.TheConstants.{MOST_STREAMS}
 use Rattle.ss_codec.specs.declared.record.Record.{Record}
 use Rattle.ss_codec.specs.declared.record.Record.TheVariants.{Stream}
-use Rattle.ss_model.specs.Marks.{lies_free}
 use Rattle.ss_model.specs.Standing.{IsState}
 use Rattle.ss_model.specs.State as Streams
 use Rattle.ss_model.specs.declared.types.Window.{Window}
-use Rattle.ss_recover.specs.Carried.{is_dropped, is_mark_of, streams_created, streams_standing, window_of}
-use Rattle.ss_recover.specs.Conditions.{has_one_record, has_place, has_new_name, keep_own_step, keep_step, tile, times_rise}
+use Rattle.ss_recover.specs.Carried.{is_mark_of, streams_standing, window_of}
+use Rattle.ss_recover.specs.Conditions.{are_sound, is_sound_with, keep_step}
 use Rattle.ss_recover.specs.Doomed.{is_doomed, is_own}
 use Rattle.ss_parts.specs.Held.{AllAgree, records_held}
-use Rattle.ss_recover.specs.Marked.{are_marks, landmarks_made}
+use Rattle.ss_recover.specs.Marked.{landmarks_made}
 use Rattle.ss_recover.specs.Order.{Rises, stream_of}
 use Rattle.ss_recover.specs.Usable.{with_slot, slots_found, without_slots}
 use Rattle.ss_recover.specs.declared.found.Found.{Found}
@@ -32,22 +31,10 @@ windows_in number records = filter_map (window_of number) records
 abbrev pub marks_in : ℕ → List Record → List Record
 marks_in number records = filter (is_mark_of number) records
 
--- they meet their conditions, where those of each stream come in order
-abbrev pub has_sound_values_in_order : List Record → ℕ → Bool
-has_sound_values_in_order records number =
-    tile (windows_in number records)
-    && times_rise (windows_in number records)
-    && are_marks (marks_in number records)
-    && list_all (lies_free (landmarks_made (marks_in number records))) (windows_in number records)
-
--- the same, and its windows keep to this step
+-- they meet their conditions, and the windows keep to this step
 abbrev pub has_sound_values_within : ℕ → List Record → ℕ → Bool
-has_sound_values_within step records number = has_sound_values_in_order records number && keep_step step (windows_in number records)
-
--- they do, and the step is that of the stream record with the number
-abbrev pub stands_sound_in_order : List Record → ℕ → Bool
-stands_sound_in_order records number =
-    has_sound_values_in_order records number && keep_own_step number (streams_created records) (windows_in number records)
+has_sound_values_within step records number =
+    are_sound (windows_in number records) (marks_in number records) && keep_step step (windows_in number records)
 
 -- a stream may stand beside those with these names: its name is new, and they aren't as many as can be
 abbrev pub may_stand : List (List ℕ) → List ℕ → Bool
@@ -63,11 +50,7 @@ is_run names (_ ∷ rest) = false
 
 -- the records of the number meet all conditions, where those of each stream come in order
 abbrev pub is_sound_in_order : List Record → ℕ → Bool
-is_sound_in_order records number =
-    has_one_record number (streams_created records)
-    && has_place number (streams_created records)
-    && has_new_name number (streams_created records)
-    && (is_dropped number records || stands_sound_in_order records number)
+is_sound_in_order records number = is_sound_with records number (windows_in number records) (marks_in number records)
 
 -- the stream that records in order make of one that is created (`stream_carried` sorts them first), and what all records make of the
 -- streams that some of them create and don't drop

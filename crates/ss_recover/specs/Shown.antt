@@ -1,14 +1,12 @@
 -- What is held of a stream whose records come, and what a walk over the records of one stream after another answers.
-use Rattle.std.specs.Prelude.{◌≡◌, ℕ, ℤ, ◌+◌, ◌<◌, ◌≤◌, Bool, true, false, ◌==◌, ◌&&◌, ◌||◌, nat_le, nat_lt, is_none, if◌then◌else◌, List, [], ◌∷◌, ◌++◌}
+use Rattle.std.specs.Prelude.{◌≡◌, ℕ, ℤ, ◌+◌, ◌<◌, ◌≤◌, Bool, true, false, ◌==◌, nat_lt, if◌then◌else◌, List, [], ◌∷◌, ◌++◌}
 use Rattle.std.specs.Prelude.{length, map, filter, suc}
-use Rattle.std.specs.Prelude.{IfSome, Option, Some, None, option_and_then, Result, Ok, Err, ⊤}
-use Rattle.std.specs.Option.{option_map_or}
+use Rattle.std.specs.Prelude.{IfSome, Option, Some, None, Result, Ok, Err, ⊤}
 use Rattle.std.specs.List.Sorted.{IsPermutation}
 use Rattle.ss_catalog.specs.declared.stream_id.StreamId.{StreamId}
 use Rattle.ss_catalog.specs.Params.{step_number}
 use Rattle.ss_codec.specs.declared.record.Record.{Record}
 use Rattle.ss_codec.specs.declared.record.Record.TheVariants as records
-use Rattle.ss_landmarks.specs.Free.{is_up_to}
 use Rattle.ss_landmarks.specs.Landmark.{Landmark, change_last, closed_at, opened_at, with_value}
 use Rattle.ss_landmarks.specs.Landmarks.{AreKnown}
 use Rattle.ss_landmarks.specs.Order.{CanClose, CanOpen, CanTake}

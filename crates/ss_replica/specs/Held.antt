@@ -8,7 +8,7 @@ use Rattle.ss_store.specs.Kept.{part_named}
 use Rattle.ss_store.specs.Recover.{Stands}
 use Rattle.ss_store.specs.declared.error.ApplyError.TheVariants as apply
 use Rattle.ss_frames.specs.Frame.{FrameState}
-use Rattle.ss_replica.specs.Offers.{after_offer, due_after, offered}
+use Rattle.ss_replica.specs.Offers.{after_offer, due_after}
 use Rattle.ss_replica.specs.declared.judging.Due.{Due}
 
 -- how many events a stream has taken, and none where it doesn't stand

@@ -19,7 +19,8 @@ use Rattle.ss_model.specs.declared.types.Run.{Run}
 use Rattle.ss_report.specs.MeanText.{mean_end_word, mean_guess_words, mean_words}
 use Rattle.ss_report.specs.declared.reply.Reply.{Reply}
 use Rattle.ss_report.specs.declared.reply.Reply.TheVariants.{Done, Answered, Refused, SeriesHead, Row, WindowsHead, Window, ListHead, Stream}
-use Rattle.ss_report.specs.declared.reply.Reply.TheVariants.{CertifyHead, CertifyMeanHead, Side, Last, ValuesHead, Value, Cursor, Rows, Closed, Old, Gap, Framed}
+use Rattle.ss_report.specs.declared.reply.Reply.TheVariants.{CertifyHead, CertifyMeanHead, Side, Last, ValuesHead, Value}
+use Rattle.ss_report.specs.declared.reply.Reply.TheVariants.{Cursor, Rows, Closed, Old, Gap, Framed}
 
 -- a line of words with one space between them, with its line end
 abbrev pub spaced_line : List ℕ → List (List ℕ) → List ℕ

@@ -10,7 +10,6 @@ use Rattle.ss_fields.specs.Words.{is_number, number_of, number_up_to, signed_of}
 use Rattle.ss_command.specs.declared.command.Command.TheVariants as commands
 use Rattle.ss_model.specs.State.{Stream}
 use Rattle.ss_outside.specs.Verdict as verdicts
-use Rattle.ss_outside.specs.Verdict.{Verdict}
 use Rattle.ss_sessions.specs.Cursors.{cursor_of, no_cursors, refuses_cursor, with_cursor}
 use Rattle.ss_sessions.specs.Errors.{refusal_of, verdict_of_cursor}
 use Rattle.ss_sessions.specs.Grammar.{asked_of, session_of, spoken_of}

@@ -6,13 +6,13 @@ mod copying;
 mod cursor;
 mod error;
 mod grammar;
+mod open_cursors;
 mod order;
-mod sessions;
 
 pub use error::{CursorError, CursorRefusal};
 pub use grammar::read_spoken;
+pub use open_cursors::OpenCursors;
 pub use order::{Order, Spoken};
-pub use sessions::Sessions;
 
 /// A cursor is asked for at most this many rows at a time.
 pub const MOST_ASKED: u32 = 1_000;

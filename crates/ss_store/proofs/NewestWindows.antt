@@ -45,7 +45,8 @@ record IsNewestWindow (value : Option LandmarkValue) (w : Option Window) : Type 
   is : w ≡ Some window
   known : newer (option_map known_in w) (option_map known_exactly value) ≡ Some (known_in window)
 
-known-read : (value : Option LandmarkValue) (last : Option (At × Entry)) (w : Option Window) (at : At) → AlikeLast last w → place_if_newer value last ≡ Some at →
+known-read : (value : Option LandmarkValue) (last : Option (At × Entry)) (w : Option Window) (at : At) → AlikeLast last w →
+    place_if_newer value last ≡ Some at →
     IsNewestWindow value w
 known-read value None w at alike some = absurd (none-some at some)
 known-read value (Some e) None at alike some = absurd (none-some (times_held e.1) (sym alike))
@@ -90,7 +91,8 @@ module _ (part : StreamParts) (s : Stream) (agrees : Agrees part s) where
 
   -- what is told by the newest window
   pub newest_of-read : (at : At) → newest_place part ≡ Some at → index_of part.line.entries at + 1 ≡ length part.line.entries → (placed : Placed)
-      → slice_get (map placed_of s.windows) (index_of part.line.entries at) ≡ Some placed → newest_of s ≡ newest_told part.last_time (Some (known_placed placed))
+      → slice_get (map placed_of s.windows) (index_of part.line.entries at) ≡ Some placed →
+      newest_of s ≡ newest_told part.last_time (Some (known_placed placed))
   newest_of-read at some last placed shown =
       let value = newest_value part.landmarks.landmarks in
       let newest = known-read value (last_or None part.line.entries) (last_or None s.windows) at alike-last some in

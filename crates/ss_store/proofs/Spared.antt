@@ -48,7 +48,8 @@ Agrees-IsSpared was now s spared agrees = record {
   last_time = ap (λ (p : StreamParts). p.last_time) spared.same ∙ agrees.last_time;
 }
 
-pub IsHeldIn-IsSpared : (others : List (ℕ × Option Record)) (was now : StreamParts) (s : Stream) (image : List ℕ) → IsSpared was now → IsHeldIn others was s image →
+pub IsHeldIn-IsSpared : (others : List (ℕ × Option Record)) (was now : StreamParts) (s : Stream) (image : List ℕ) → IsSpared was now →
+    IsHeldIn others was s image →
     IsHeldIn others now s image
 IsHeldIn-IsSpared others was now s image spared held =
     let same : records_held (now, s) ≡ records_held (was, s) = ap (λ (p : StreamParts). records_held (p, s)) spared.same in

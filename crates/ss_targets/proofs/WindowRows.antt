@@ -1,5 +1,5 @@
 -- Worked rows, each computed.
-use Rattle.std.proofs.Common.{◌≡◌, ℕ, ◌-◌, ◌^◌, Bool, true, false, List, [], ◌∷◌, map, refl, arith}
+use Rattle.std.proofs.Common.{◌≡◌, ℕ, ◌-◌, Bool, true, false, List, [], ◌∷◌, map, refl, arith}
 use Rattle.ss_targets.specs.Exp.{exp_length}
 use Rattle.ss_targets.specs.Windowing.{cut, fits, window_index, NeverFall}
 use Rattle.ss_targets.specs.declared.exp.TheConstants.{LEAST_BASE, GREATEST_BASE, MOST_REPEAT, GREATEST_SCALE}

@@ -1,8 +1,8 @@
 -- An older age lies in no earlier window.
-use Rattle.std.proofs.Common.{ℕ, zero, suc, ◌≡◌, ◌≤◌, inl, inr, true, refl, arith}
+use Rattle.std.proofs.Common.{ℕ, zero, suc, ◌≡◌, ◌≤◌, inl, inr, arith}
 use Rattle.std.proofs.lemmas.Bool.{cases_lt}
 use Rattle.std.proofs.lemmas.Bool.Decides.{nat_tests}
-use Rattle.ss_targets.specs.Windowing.{cut, ended_windows, window_index}
+use Rattle.ss_targets.specs.Windowing.{ended_windows, window_index}
 
 -- more windows have ended by a greater age
 ended_windows-age : (len : ℕ → ℕ) (a b k : ℕ) → a ≤ b → ended_windows len a k ≤ ended_windows len b k

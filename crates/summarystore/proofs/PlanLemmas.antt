@@ -1,5 +1,6 @@
 -- Options are taken off the words one by one.
-use Rattle.std.proofs.Common.{◌≡◌, ◌∙◌, ◌<◌, ◌≤◌, ◌||◌, if◌then◌else◌, nat_lt, true, false, Bool, ℕ, arith, length, sym, List, [], ◌∷◌, ◌++◌, Some, None, drop, take, refl, ap}
+use Rattle.std.proofs.Common.{◌≡◌, ◌∙◌, ◌<◌, ◌≤◌, ◌||◌, if◌then◌else◌, nat_lt, true, false, Bool, ℕ, arith, length, sym}
+use Rattle.std.proofs.Common.{List, [], ◌∷◌, ◌++◌, Some, None, drop, take, refl, ap}
 use Rattle.std.proofs.lemmas.Bool.{le-ltb}
 use Rattle.std.proofs.lemmas.List.{drop-map, length-map, map-append, take-map}
 use Rattle.std.specs.List.{insert, remove}

@@ -5,7 +5,7 @@ use Rattle.ss_arguments.specs.declared.mode.Form.{Form}
 use Rattle.ss_arguments.specs.declared.mode.Form.TheVariants.{Lines, Sessions, Frames, Follow}
 use Rattle.ss_arguments.specs.declared.mode.Mode.TheVariants.{Serve, Check, Gen}
 use Rattle.ss_arguments.specs.declared.mode.Sealing.TheVariants.{Shared}
-use Rattle.summarystore.specs.Plan.{asked_words, Planned, Prints, Runs, demand_of, missing_for, notice_of, path_of, planned, status_with}
+use Rattle.summarystore.specs.Plan.{asked_words, Planned, Runs, demand_of, missing_for, notice_of, path_of, planned, status_with}
 use Rattle.ss_file.specs.declared.demand.Demand.{Demand}
 use Rattle.ss_file.specs.declared.demand.Demand.TheVariants as demand
 use Rattle.summarystore.specs.declared.notice.Notice.TheVariants.{Help, Version}
@@ -79,7 +79,15 @@ planned-sessions : planned (over_s (codes "sessions" ∷ [])) ≡ runs (codes "s
 unfolding asked_words
 planned-sessions = refl
 
-planned-no_words : planned [] ≡ Runs (record { words = []; path = []; missing = Make; demand = demand.Nothing; explains = false; is_strict = false; form = Lines false })
+planned-no_words : planned [] ≡ Runs (record {
+  words = [];
+  path = [];
+  missing = Make;
+  demand = demand.Nothing;
+  explains = false;
+  is_strict = false;
+  form = Lines false;
+})
 unfolding asked_words
 planned-no_words = refl
 

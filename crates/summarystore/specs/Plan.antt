@@ -1,5 +1,6 @@
 -- What the program does, by the words of the command line.
-use Rattle.std.specs.Prelude.{ℕ, Bool, true, false, ◌==◌, ◌&&◌, ◌||◌, ◌-◌, nat_lt, if◌then◌else◌, List, [], ◌∷◌, ◌++◌, length, get_or, take, drop, codes, Option, Some, None}
+use Rattle.std.specs.Prelude.{ℕ, Bool, true, false, ◌==◌, ◌&&◌, ◌||◌, ◌-◌, nat_lt, if◌then◌else◌, List, [], ◌∷◌, ◌++◌, length}
+use Rattle.std.specs.Prelude.{get_or, take, drop, codes, Option, Some, None}
 use Rattle.std.specs.List.{insert}
 use Rattle.std.specs.Option.{option_map_or}
 use Rattle.std.specs.Prelude.{string_bytes}
@@ -13,7 +14,6 @@ use Rattle.ss_arguments.specs.declared.mode.Mode.TheVariants.{Serve, Check, Gen}
 use Rattle.ss_file.specs.declared.demand.Demand.{Demand}
 use Rattle.ss_file.specs.declared.demand.Demand.TheVariants as demand
 use Rattle.summarystore.specs.declared.notice.Notice.{Notice}
-use Rattle.summarystore.specs.declared.notice.Notice.TheVariants.{Help, Version}
 use Rattle.ss_file.specs.declared.opening.Missing.{Missing}
 use Rattle.ss_file.specs.declared.opening.Missing.TheVariants.{Make, Fail, ReadEmpty, ReadFail}
 use Rattle.summarystore.specs.declared.options.Options.{Options}

@@ -9,7 +9,7 @@ use crate::steps::comes;
 use ss_base::MOST_SESSIONS;
 use ss_catalog::{Name, Refusal};
 use ss_model::Placed;
-use ss_sessions::{CursorError, CursorRefusal, Sessions};
+use ss_sessions::{CursorError, CursorRefusal, OpenCursors};
 use ss_store::OpenError;
 use std::alloc::Global;
 use std::test::Fail;
@@ -39,7 +39,7 @@ use Turn::{Closes, Does, Fails, Left, Opens, Takes};
 // Opens a cursor. `None` is for what is no session or name, for a store that has stopped, and for a call of the disk where the cursor
 // is refused.
 fn opened(
-    sessions: &mut Sessions,
+    sessions: &mut OpenCursors,
     running: &mut Running,
     session: u8,
     letter: u8,
@@ -56,7 +56,7 @@ fn opened(
     }
 }
 
-fn has_left(sessions: &Sessions, session: u8, want: Option<u32>) -> bool {
+fn has_left(sessions: &OpenCursors, session: u8, want: Option<u32>) -> bool {
     session < MOST_SESSIONS && sessions.left(session) == want
 }
 
@@ -70,21 +70,21 @@ fn is_given(row: Option<Placed>, want: Option<Given>) -> bool {
     }
 }
 
-fn is_taken(sessions: &mut Sessions, session: u8, want: Option<Given>) -> bool {
+fn is_taken(sessions: &mut OpenCursors, session: u8, want: Option<Given>) -> bool {
     if session >= MOST_SESSIONS || sessions.left(session).is_none() {
         return false;
     }
     is_given(sessions.take(session), want)
 }
 
-fn is_closed(sessions: &mut Sessions, session: u8, want: bool) -> bool {
+fn is_closed(sessions: &mut OpenCursors, session: u8, want: bool) -> bool {
     session < MOST_SESSIONS && sessions.close(session) == want
 }
 
 // Whether the opening of a cursor fails where the disk fails after so many calls, and gives the session none.
 fn fails_after(
     alloc: Global,
-    sessions: &mut Sessions,
+    sessions: &mut OpenCursors,
     running: &mut Running,
     session: u8,
     calls: u64,
@@ -99,7 +99,7 @@ fn fails_after(
 // The same after each number of calls below this one.
 fn fails_below(
     alloc: Global,
-    sessions: &mut Sessions,
+    sessions: &mut OpenCursors,
     running: &mut Running,
     session: u8,
     calls: u64,
@@ -115,7 +115,7 @@ fn fails_below(
 // Whether this comes of a turn.
 fn is_so(
     alloc: Global,
-    sessions: &mut Sessions,
+    sessions: &mut OpenCursors,
     running: &mut Running,
     turn: Turn,
 ) -> Result<bool, OpenError> {
@@ -134,7 +134,7 @@ fn is_so(
 // The first turn of which something else comes.
 fn first_other(
     alloc: Global,
-    sessions: &mut Sessions,
+    sessions: &mut OpenCursors,
     running: &mut Running,
     turns: &[Turn],
 ) -> Result<Option<usize>, OpenError> {
@@ -148,7 +148,7 @@ fn first_other(
 
 // The same, from an empty disk and sessions without cursors on.
 fn first_wrong(alloc: Global, turns: &[Turn]) -> Result<Option<usize>, OpenError> {
-    let mut sessions = Sessions::new(alloc);
+    let mut sessions = OpenCursors::new(alloc);
     let mut running = fresh(alloc)?;
     first_other(alloc, &mut sessions, &mut running, turns)
 }

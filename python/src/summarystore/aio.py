@@ -18,7 +18,7 @@ from typing import TYPE_CHECKING, Self, TypeVar, cast
 from . import calls
 from .aio_questions import Questions
 from .codec import Change, Codec
-from .connection import Connection
+from .connection import ProcessConnection
 from .description import Description, brought_to, changed, description_of
 from .errors import (CursorBusyError, LateError, RefusedError, StoreClosedError, StreamExistsError,
                      SummaryStoreError)
@@ -316,7 +316,7 @@ class Store(Channel, Questions):
         finally:
             await self._give_cursor(session, connection)
 
-    async def _take_cursor(self) -> tuple[int, Connection]:
+    async def _take_cursor(self) -> tuple[int, ProcessConnection]:
         """A session for a cursor, and the process that is up: one that has ended has no cursors."""
         owner = asyncio.current_task()
         while True:
@@ -331,7 +331,7 @@ class Store(Channel, Questions):
                     raise CursorBusyError("BUSY", "windows", "this task has eight iterators open")
                 await self._changed.wait()
 
-    async def _give_cursor(self, session: int, connection: Connection) -> None:
+    async def _give_cursor(self, session: int, connection: ProcessConnection) -> None:
         async with self._changed:
             try:
                 if connection is self._connection:

@@ -3,17 +3,17 @@
 from __future__ import annotations
 
 import asyncio
-import os
 import warnings
 from collections import defaultdict
 from collections.abc import Sequence
 from typing import TypeVar
 
 from . import older
+from .backends import ByProgram, File
 from .base import Base
 from .calls import Call
 from .codec import Translator
-from .connection import RENEW_AT, Connection
+from .connection import RENEW_AT, Connection, ProcessConnection
 from .errors import ReopenedWarning, StoreClosedError
 from .keeping import Keeping
 from .pipeline import Commands, Request
@@ -23,14 +23,13 @@ from .wire import NOTHING, Reply
 T = TypeVar("T")
 
 
-class Channel(Base):
+class Channel(Base[ProcessConnection]):
     """A store's process, for one event loop."""
 
-    def __init__(self, path: StorePath, *, program: str | os.PathLike[str] | None = None,
+    def __init__(self, path: StorePath, *, program: File | None = None,
                  translator: Translator | None = None, existing: bool = False,
                  checked: bool | None = None, renew_at: int = RENEW_AT) -> None:
-        super().__init__(path, program=program, translator=translator, existing=existing, checked=checked,
-                         renew_at=renew_at)
+        super().__init__(path, ByProgram(program), program, translator, existing, checked, renew_at)
         self._opening = asyncio.Lock()
         self._changed = asyncio.Condition()
         self._opened = self._flushing = False
@@ -39,12 +38,12 @@ class Channel(Base):
 
     # ---- the process --------------------------------------------------------------------
 
-    async def _up(self) -> Connection:
+    async def _up(self) -> ProcessConnection:
         """The process that is up. One that has ended is started again, once, and that is said."""
         async with self._opening:
             return await self._running()
 
-    async def _running(self) -> Connection:
+    async def _running(self) -> ProcessConnection:
         """`_up` for whoever holds the lock."""
         if self._closed:
             raise StoreClosedError(f"{self.path} is closed")
@@ -52,7 +51,7 @@ class Channel(Base):
         if self._connection is None:
             self._connection = await self._begin()
             if self._opened:
-                warnings.warn(ReopenedWarning(f"{self.path}: the program had ended; opened again"),
+                warnings.warn(ReopenedWarning(f"{self.path}: {self._backend.ended}; opened again"),
                               stacklevel=5)
             self._opened = True
         return self._connection
@@ -67,12 +66,12 @@ class Channel(Base):
                 await self._put_down()
                 self._connection = old.successor = await self._begin()
 
-    async def _begin(self) -> Connection:
+    async def _begin(self) -> ProcessConnection:
         connection = await asyncio.to_thread(self._start)
         asyncio.get_running_loop().add_reader(connection.process.output, self._readable, connection)
         return connection
 
-    async def _answered(self, connection: Connection) -> None:
+    async def _answered(self, connection: ProcessConnection) -> None:
         """Waits for all that is under way: replies come in order, so for that to one more line."""
         last = Commands(0, [NOTHING])
         self._hand_over(connection, last)
@@ -85,12 +84,12 @@ class Channel(Base):
             self._unwatch(connection)
             await asyncio.to_thread(connection.close)
 
-    def _unwatch(self, connection: Connection) -> None:
+    def _unwatch(self, connection: ProcessConnection) -> None:
         loop = asyncio.get_running_loop()
         loop.remove_reader(connection.process.output)
         loop.remove_writer(connection.process.input)
 
-    def _readable(self, connection: Connection) -> None:
+    def _readable(self, connection: ProcessConnection) -> None:
         try:
             more = connection.fill()
         except BaseException:
@@ -101,7 +100,7 @@ class Channel(Base):
             self._connection = None
             connection.end()
 
-    def _give_up(self, connection: Connection) -> None:
+    def _give_up(self, connection: ProcessConnection) -> None:
         """Gives a process up: what it has been told, or what it says, isn't known any more."""
         self._unwatch(connection)
         self._connection = None
@@ -136,7 +135,7 @@ class Channel(Base):
                 self._hand_over(connection, request)
             return connection
 
-    def _hand_over(self, connection: Connection, request: Request) -> None:
+    def _hand_over(self, connection: ProcessConnection, request: Request) -> None:
         """Queues a request. What is queued in one turn of the loop is written together."""
         connection.pipeline.add(request)
         if not self._flushing:

@@ -1,4 +1,4 @@
-"""What both faces of a store have: where it lies, its process, its sessions and its streams."""
+"""What both faces of a store have: where it lies, by what it is asked, its sessions and its streams."""
 
 from __future__ import annotations
 
@@ -6,10 +6,12 @@ import os
 import time
 import warnings
 from collections.abc import Sequence
+from typing import Generic, TypeVar
 
 from . import program as programs
+from .backends import Backend, File, Name
 from .codec import Codec, Plain, Translator
-from .connection import RENEW_AT, Connection, connect, connect_to_copy
+from .connection import Connection, connect, connect_to_copy
 from .description import Description
 from .errors import DiskFullError, ReadsOnlyWarning
 from .pipeline import Request
@@ -21,33 +23,42 @@ AGAIN = 10.0
 """A store whose disk was full is tried again after so many seconds."""
 
 
-class Base:
-    """A store with at most one process. With `existing` it has to be there, and isn't made.
+C = TypeVar("C", bound=Connection)
+
+
+class Base(Generic[C]):
+    """A store with at most one connection. With `existing` it has to be there, and isn't made.
 
     One that is made is checked, and with False for `checked` plain. With True one that stands has to be
     checked.
     """
 
-    def __init__(self, path: StorePath, *, program: str | os.PathLike[str] | None = None,
-                 translator: Translator | None = None, existing: bool = False,
-                 checked: bool | None = None, renew_at: int = RENEW_AT) -> None:
+    def __init__(self, path: StorePath, backend: Backend[C], program: File | None,
+                 translator: Translator | None, existing: bool, checked: bool | None, renew_at: int) -> None:
         self.path = os.path.abspath(os.fsdecode(path))
-        self._program = programs.find_program(program)
+        self._backend = backend
+        self._program = program
         self._translator: Translator = Plain() if translator is None else translator
         self._existing = existing
         self._checked = checked
         self._renew_at = renew_at
         self._sessions = Sessions()
-        self._connection: Connection | None = None
+        self._connection: C | None = None
         self._closed = False
 
-    def _start(self) -> Connection:
-        """A new process. A store that is gone by then isn't made anew."""
+    @property
+    def backend(self) -> Name:
+        """By what it is asked: the `library` in this process, or the `program` as a process of its own."""
+        return self._backend.name
+
+    def _start(self) -> C:
+        """A new connection. A store that is gone by then isn't made anew."""
         self._sessions.forget_cursors()
         try:
-            connection = connect(self._program, self.path, self._translator, self._existing, self._checked)
+            connection = connect(self._backend.open, self.path, self._translator, self._existing,
+                                 self._checked)
         except DiskFullError as full:
-            connection = connect_to_copy(self._program, self.path, self._translator, full)
+            connection = connect_to_copy(self._backend.open, self.path, self._translator, full)
             told = ReadsOnlyWarning(f"{self.path}: the disk is full, and a copy is read")
             warnings.warn(told, stacklevel=5)
         self._existing = True
@@ -58,8 +69,8 @@ class Base:
         """Why the store is only read: its disk was full at its opening. It is tried again after a while."""
         return None if self._connection is None else self._connection.full
 
-    def _outlived(self) -> Connection | None:
-        """The process that is up, where it has taken so much that another is to take its place.
+    def _outlived(self) -> C | None:
+        """The connection that is up, where it has taken so much that another is to take its place.
 
         A copy is looked after, too: there may be room for the store again. A cursor keeps either.
         """
@@ -67,13 +78,13 @@ class Base:
         if connection is None or self._sessions.cursors:
             return None
         long = connection.full is not None and time.monotonic() > connection.begun + AGAIN
-        return connection if long or connection.pipeline.sent > self._renew_at else None
+        return connection if long or connection.sent > self._renew_at else None
 
     def _call_off(self, requests: Sequence[Request]) -> None:
         """Takes back what isn't written yet of requests that aren't done."""
         for request in requests:
             if self._connection is not None:
-                self._connection.pipeline.withdraw(request)
+                self._connection.withdraw(request)
             elif not request.done:      # it was never handed over
                 request.finish()
 
@@ -82,9 +93,9 @@ class Base:
 
     @property
     def pid(self) -> int | None:
-        """The number of the process, if one is up."""
+        """The number of the program's process, if one is up. The library has none."""
         connection = self._connection
-        return None if connection is None else connection.process.pid
+        return None if connection is None else connection.pid
 
     def codec(self, name: str) -> Codec:
         """How a stream's times and values become whole numbers, and back."""

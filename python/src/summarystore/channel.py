@@ -1,4 +1,4 @@
-"""The process of a store, shared by threads: who waits moves the bytes for all who wait."""
+"""The connection of a store, shared by threads: who waits moves the bytes for all who wait."""
 
 from __future__ import annotations
 
@@ -6,11 +6,13 @@ import os
 import threading
 import warnings
 from collections import defaultdict, deque
-from collections.abc import Iterator, Sequence
+from collections.abc import Callable, Iterator, Sequence
 from contextlib import contextmanager, suppress
+from itertools import starmap
 from typing import TypeVar
 
 from . import calls, older
+from .backends import File, Name, backend_of
 from .base import Base
 from .calls import Call
 from .codec import Codec, Translator
@@ -25,15 +27,39 @@ T = TypeVar("T")
 LOOK_AGAIN = 0.1
 
 
-class Channel(Base):
-    """A store's process, its sessions, and its cursors."""
+def without(lock: threading._RLock, work: Callable[[], None]) -> None:
+    """Does something while a lock is free, which is held again afterwards, also where an interrupt comes.
 
-    def __init__(self, path: StorePath, *, program: str | os.PathLike[str] | None = None,
+    What is called by one call has no interrupt between it and the note that it was done.
+    """
+    free: list[None] = []
+    held: list[bool] = []
+    interrupted: BaseException | None = None
+    try:
+        free.extend(starmap(lock.release, [()]))
+        work()
+    finally:
+        while free and not held:
+            try:
+                held.extend(starmap(lock.acquire, [()]))
+            except BaseException as error:      # while it was waited for
+                interrupted = error
+    if interrupted is not None:
+        raise interrupted
+
+
+class Channel(Base[Connection]):
+    """A store's connection, its sessions, and its cursors."""
+
+    def __init__(self, path: StorePath, *, program: File | None = None,
                  translator: Translator | None = None, existing: bool = False,
-                 checked: bool | None = None, renew_at: int = RENEW_AT) -> None:
-        super().__init__(path, program=program, translator=translator, existing=existing, checked=checked,
-                         renew_at=renew_at)
-        self._changed = threading.Condition()
+                 checked: bool | None = None, renew_at: int = RENEW_AT,
+                 backend: Name | None = None, library: File | None = None) -> None:
+        super().__init__(path, backend_of(backend, program, library), program, translator, existing, checked,
+                         renew_at)
+        # Held by itself: no interrupt comes between its taking and the `with` that gives it back.
+        self._lock = threading.RLock()
+        self._changed = threading.Condition(self._lock)
         self._mine = threading.local()
         self._let_go: deque[tuple[int, Connection]] = deque()
         self._pumping = False
@@ -46,18 +72,18 @@ class Channel(Base):
         return super()._start()
 
     def _up(self) -> Connection:
-        """The process that is up. One that has ended is started again, once, and that is said."""
+        """The connection that is up. One that has ended is made again, once, and that is said."""
         self._must_be_mine()
         if self._connection is None:
             self._connection = self._start()
-            warnings.warn(ReopenedWarning(f"{self.path}: the program had ended; opened again"),
+            warnings.warn(ReopenedWarning(f"{self.path}: {self._backend.ended}; opened again"),
                           stacklevel=6)
         return self._connection
 
     def _ready(self) -> None:
         """Before the names are written: the process is up, so the store is locked and they are known."""
         self._must_be_mine()
-        with self._changed:
+        with self._lock:
             self._up()
 
     def _must_be_mine(self) -> None:
@@ -68,14 +94,14 @@ class Channel(Base):
         """Lets another process take the place of one that has taken much. What is under way is answered
         before, and whoever wants to send more meanwhile waits here."""
         while (old := self._outlived()) is not None:
-            if old.pipeline.idle:
+            if old.idle:
                 self._put_down(old)
                 self._connection = old.successor = self._start()
             else:
                 self._pump()
 
     def _put_down(self, connection: Connection) -> None:
-        """Lets a process end in order."""
+        """Ends a connection in order."""
         self._connection = None
         connection.close()
 
@@ -87,7 +113,7 @@ class Channel(Base):
             yield held
             return
         self._must_be_mine()    # before the lock, which another thread may have held at a fork
-        with self._changed:
+        with self._lock:
             while (session := self._sessions.take()) is None:
                 self._changed.wait()
         self._mine.session = session
@@ -95,7 +121,7 @@ class Channel(Base):
             yield session
         finally:
             self._mine.session = None
-            with self._changed:
+            with self._lock:
                 self._sessions.give(session)
                 self._changed.notify_all()
 
@@ -105,7 +131,7 @@ class Channel(Base):
 
     def _submit(self, request: Request, only: Connection | None = None) -> Connection:
         """Sends a request: where a process is named, to that one or its successor, or to none."""
-        with self._changed:
+        with self._lock:
             self._renew()
             if only is not None and only.newest() is not self._connection:
                 request.finish(request.interrupted(only.failure()))
@@ -122,7 +148,7 @@ class Channel(Base):
 
     def _wait(self, request: Request) -> None:
         """Waits for the replies. One of those who wait moves the bytes for all."""
-        with self._changed:
+        with self._lock:
             while not request.done:
                 self._pump()
 
@@ -139,14 +165,10 @@ class Channel(Base):
             self._changed.notify_all()
 
     def _step(self) -> None:
-        """Writes and reads what can be, after waiting for that. The lock is free meanwhile."""
+        """Does what can be done, after waiting for that. The lock is free meanwhile."""
         connection = self._connection
         assert connection is not None
-        self._changed.release()
-        try:
-            connection.poll()
-        finally:
-            self._changed.acquire()
+        without(self._lock, connection.poll)
         if connection is not self._connection:
             return      # another thread has given it up
         try:
@@ -160,7 +182,7 @@ class Channel(Base):
             connection.end()
 
     def _abandon(self, connection: Connection) -> None:
-        """Gives a process up: what it has been told, or what it says, isn't known any more."""
+        """Gives a connection up: what it has been told, or what it says, isn't known any more."""
         self._connection = None
         connection.abandon()
 
@@ -192,13 +214,13 @@ class Channel(Base):
         return call.answer(request.replies)
 
     def close(self) -> None:
-        """Lets the program end in order, after all that is under way. Twice does no harm."""
+        """Ends the connection in order, after all that is under way. Twice does no harm."""
         if self._owner != os.getpid():
             return
-        with self._changed:
+        with self._lock:
             if self._closed:
                 return
-            while self._connection is not None and not self._connection.pipeline.idle:
+            while self._connection is not None and not self._connection.idle:
                 self._pump()
             self._closed = True
             if self._connection is not None:
@@ -209,7 +231,7 @@ class Channel(Base):
     def open_cursor(self, codec: Codec) -> tuple[int, Connection]:
         """A session with a cursor of a stream, and the process that it belongs to."""
         owner = threading.get_ident()
-        with self._changed:
+        with self._lock:
             self._close_let_go()
             connection = self._up()
             while (session := self._sessions.take_cursor(owner)) is None:
@@ -251,7 +273,7 @@ class Channel(Base):
                 self.close_cursor(*gone)
 
     def _give_cursor(self, session: int, connection: Connection) -> None:
-        with self._changed:
+        with self._lock:
             if self._connection is connection:
                 self._sessions.give_cursor(session)
             self._changed.notify_all()

@@ -325,6 +325,10 @@ class ProgramMissingError(SummaryStoreError):
     """The program `summarystore` wasn't found."""
 
 
+class LibraryMissingError(SummaryStoreError):
+    """The library `libsummarystore` wasn't found, or can't be loaded."""
+
+
 class StoreClosedError(SummaryStoreError):
     """The `Store` was closed, or belongs to the process that this one was forked from."""
 

@@ -101,10 +101,9 @@ class GaugeCodec(Through):
         """The readings alone."""
         return [(time, value) for time, value, _ in self._gauge.rows(self._codec.rows(given))]
 
-    def lines(self, session: int, given: Sequence[tuple[object, object]]) -> bytes:
-        """The tagged lines of readings, each behind that of its increment."""
-        found = self._gauge.rows(self._codec.rows(given))
-        return wire.paired(session, (self._beside, self.short), found)
+    def readings(self, given: Sequence[tuple[object, object]]) -> wire.Paired:
+        """Readings, each behind its increment."""
+        return wire.paired((self._beside, self.short), self._gauge.rows(self._codec.rows(given)))
 
     def append(self, time: object, value: object) -> Call[Stored]:
         """Takes one reading."""

@@ -14,7 +14,7 @@ from collections.abc import Callable, Sequence
 from typing import Generic, TypeVar
 
 from .errors import LateError, ProcessEndedError, ProtocolError, SummaryStoreError, refusal_of
-from .wire import COMMAND, LONGEST_LINE, LONGEST_SENT, Reply, rows_after, tagged
+from .wire import COMMAND, LONGEST_LINE, LONGEST_SENT, Lines, Reply, rows_after, tagged
 
 log = logging.getLogger("summarystore")
 ATOMIC = select.PIPE_BUF
@@ -30,15 +30,20 @@ class Request:
     changes = False
     """Whether it would change the store."""
 
-    def __init__(self, session: int, data: bytes, count: int) -> None:
+    def __init__(self, session: int, count: int) -> None:
+        self.session = session
         self.tag = b"@%d " % session
-        self.data = data
         self.count = count
         self.written = 0
         self.answered = 0
         self.done = False
         self.error: SummaryStoreError | None = None
         self.when_done: Callable[[], None] | None = None
+
+    @property
+    def data(self) -> bytes:
+        """The tagged lines, each with its line end."""
+        raise NotImplementedError
 
     def take(self, block: bytes, at: int) -> int:
         """Takes whole lines of a block from a place on, and gives the place after them."""
@@ -74,13 +79,17 @@ class Commands(Request):
                 raise refusal_of("LINE", f"{line[:LONGEST_LINE]}..")
             if not COMMAND.fullmatch(line):
                 raise refusal_of("SYNTAX", repr(line))
-        super().__init__(session, tagged(session, lines), len(lines))
+        super().__init__(session, len(lines))
         self.changes = any(line.startswith(EVENTS) for line in lines)
         self.lines = lines
         self.replies: list[Reply] = []
         self._head = ""
         self._rows: list[str] = []
         self._missing = 0
+
+    @property
+    def data(self) -> bytes:
+        return tagged(self.session, self.lines)
 
     def take(self, block: bytes, at: int) -> int:
         while at < len(block) and not self.done:
@@ -122,13 +131,18 @@ class Appends(Request, Generic[T]):
     each = 1
     """How many lines a row has, of which the last one is its own."""
 
-    def __init__(self, session: int, data: bytes, rows: Sequence[T]) -> None:
-        super().__init__(session, data, self.each * len(rows))
+    def __init__(self, session: int, readings: Lines, rows: Sequence[T]) -> None:
+        super().__init__(session, self.each * len(rows))
+        self.readings = readings
         self.rows = rows
         self.refused: list[tuple[T, SummaryStoreError]] = []
         self.last = ""
         self._ok = self.tag + b"ok "
         self._next = b"\n" + self._ok
+
+    @property
+    def data(self) -> bytes:
+        return self.readings.lines(self.session)
 
     def take(self, block: bytes, at: int) -> int:
         missing = self.count - self.answered
@@ -156,11 +170,14 @@ class Appends(Request, Generic[T]):
         if head.startswith("ok "):
             self.last = head
         elif head.startswith("refused "):
-            line = self.data.splitlines()[self.answered].decode("utf-8", "replace")
-            self._refuse(self.answered, refusal_of(head[8:], line[3:]))
+            self.refuse(self.answered, head[8:])
         else:
             raise ProtocolError(f"a reply to an append was to come: {head[:200]}")
         self.answered += 1
+
+    def refuse(self, at: int, word: str) -> None:
+        """A line was refused, by this word."""
+        self._refuse(at, refusal_of(word, self.readings.line(at)))
 
     def _refuse(self, line: int, error: SummaryStoreError) -> None:
         self.refused.append((self.rows[line], error))

@@ -188,10 +188,29 @@ class Posts(Sending):
         super().__init__(codec, rows_of(rows), refused, lateness)
         self._name = name
 
-    def _lines(self, rows: Sequence[Row]) -> bytes:
+    def _readings(self, rows: Sequence[Row]) -> Posted:
         if str in set(map(type, rows)):
             raise TypeError("a row is a time and a value, and not a text")
-        return b"".join([reading(self._name, self.codec, time, value) + b",\n" for time, value in rows])
+        return Posted([reading(self._name, self.codec, time, value) for time, value in rows])
+
+
+@dataclass(frozen=True)
+class Posted:
+    """Readings as a service takes them."""
+
+    readings: Sequence[bytes]
+
+    def lines(self, session: int) -> bytes:
+        """All of them. A service has no sessions."""
+        return b"".join([each + b",\n" for each in self.readings])
+
+    def line(self, at: int) -> str:
+        """One of them."""
+        return self.readings[at].decode("utf-8")
+
+    def and_more(self, others: Sequence[Posted]) -> Posted:
+        """The same with others behind it."""
+        return Posted([reading for each in (self, *others) for reading in each.readings])
 
 
 def posted(request: Appends[Row]) -> Ask[None]:

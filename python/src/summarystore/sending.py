@@ -35,7 +35,6 @@ class Sending:
     def __init__(self, codec: Codec, rows: object, refused: OnRefused | None,
                  lateness: object | None) -> None:
         self.codec = codec
-        self._session = 0
         self.connection: Connection | None = None
         self._on_refused = refused
         self._refused: list[tuple[Row, Exception]] = []
@@ -59,12 +58,11 @@ class Sending:
 
     def requests(self, session: int) -> Iterator[Appends[Row]]:
         """The requests, one after the other."""
-        self._session = session
         while not self.stopped and self._draw():
-            rows, data, rest = self._coded(self._drawn)
-            if rows:
+            rows, readings, rest = self._coded(self._drawn)
+            if readings is not None:
                 made = PairedAppends if isinstance(self.codec, GaugeCodec) else Appends
-                request: Appends[Row] = made(self._session, data, rows)
+                request: Appends[Row] = made(session, readings, rows)
                 self.under_way, self._drawn = [*self.under_way, request], rest
                 yield request
             else:
@@ -87,30 +85,30 @@ class Sending:
         drawn.extend(islice(self._rows, CHUNK))     # what comes before an exception stays in it
         return bool(drawn)
 
-    def _coded(self, chunk: list[Row]) -> tuple[Sequence[Row], bytes, list[Row]]:
-        """The rows of a chunk that are readings of the stream, their lines, and those after a stop."""
+    def _coded(self, chunk: list[Row]) -> tuple[Sequence[Row], wire.Lines | None, list[Row]]:
+        """The rows of a chunk that are readings of the stream, these readings, and the rows after a stop."""
         try:
-            return chunk, self._lines(chunk), []
+            return chunk, self._readings(chunk), []
         except Exception:
             pass    # one of them isn't: they are gone through one by one
         rows: list[Row] = []
-        lines: list[bytes] = []
+        found: list[wire.Lines] = []
         for at, row in enumerate(chunk, 1):
             try:
-                lines.append(self._lines([row]))
+                found.append(self._readings([row]))
                 rows.append(row)
             except Exception as error:
                 self._refuse(row, error)
                 if self.stopped:
-                    return rows, b"".join(lines), chunk[at:]
-        return rows, b"".join(lines), []
+                    return rows, _together(found), chunk[at:]
+        return rows, _together(found), []
 
-    def _lines(self, rows: Sequence[Row]) -> bytes:
+    def _readings(self, rows: Sequence[Row]) -> wire.Lines:
         if str in set(map(type, rows)):     # two characters would be taken for a time and a value
             raise TypeError("a row is a time and a value, and not a text")
         if isinstance(self.codec, GaugeCodec):
-            return self.codec.lines(self._session, rows)
-        return wire.appends(self._session, self.codec.short, self.codec.rows(rows))
+            return self.codec.readings(rows)
+        return wire.readings(self.codec.short, self.codec.rows(rows))
 
     def _refuse(self, row: Row, error: Exception) -> None:
         if self._on_refused is None:
@@ -148,6 +146,10 @@ class Sending:
     def late(self) -> list[LateError]:
         """The refusals that are to be told the newest time."""
         return [error for _, error in self._refused if isinstance(error, LateError)]
+
+
+def _together(found: Sequence[wire.Lines]) -> wire.Lines | None:
+    return found[0].and_more(found[1:]) if found else None
 
 
 def _with(outcome: Outcome, request: Appends[Row]) -> Outcome:

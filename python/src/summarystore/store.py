@@ -1,4 +1,4 @@
-"""A store behind its process, for threads: calls wait for their replies."""
+"""A store for threads: calls wait for their replies."""
 
 from __future__ import annotations
 
@@ -27,9 +27,10 @@ from .late import MOST_HELD
 from .meters import counting, must_not_count
 from .outcome import tell
 from .present import UNSAID, next_free, reading_of
+from .program import find_program
 from .questions import Questions
 from .records import Soundness, Stored
-from .sending import OnRefused, Sending
+from .sending import OPEN, OnRefused, Sending
 
 if TYPE_CHECKING:
     from .reordered import Reordered
@@ -234,8 +235,8 @@ class Store(Channel, Questions):
         self._close_let_go()
         with self._session() as session, self._telling(sending):
             for request in sending.requests(session):
-                sending.connection = self._submit(request, sending.connection)
-                for oldest in sending.due():
+                connection = sending.connection = self._submit(request, sending.connection)
+                for oldest in sending.due(0 if connection.is_due else OPEN - 1):
                     self._wait(oldest)
         if sending.stopped:
             self.send_rest(sending)
@@ -261,7 +262,7 @@ class Store(Channel, Questions):
         """An exception came: what isn't written yet is taken back, and what became of the rows is told
         with it."""
         try:
-            with self._changed:
+            with self._lock:
                 self._call_off(sending.under_way)
             for request in sending.under_way:
                 self._wait(request)
@@ -323,8 +324,9 @@ class Store(Channel, Questions):
         return Windows(self, self._translator.codec(name))
 
     def check(self) -> Soundness:
-        """Looks the store over. The process is ended for that, and started again."""
-        with self._changed:
+        """Looks the store over, by the program. It is closed for that, and opened again."""
+        find_program(self._program)     # before it is closed
+        with self._lock:
             self._close_let_go()
             while not self._sessions.idle:
                 if self._sessions.holds_any(threading.get_ident()) or self._is_mine():
@@ -332,7 +334,7 @@ class Store(Channel, Questions):
                 self._changed.wait(LOOK_AGAIN)
                 self._close_let_go()
             old = self._up()
-            while not old.pipeline.idle:
+            while not old.idle:
                 self._pump()
             if self._connection is old:
                 self._put_down(old)

@@ -8,8 +8,9 @@ from __future__ import annotations
 
 import re
 from collections.abc import Iterable, Sequence
+from dataclasses import dataclass
 from itertools import chain
-from typing import NamedTuple
+from typing import NamedTuple, Protocol, Self
 
 from .decimals import is_truth_value
 from .errors import CommandError, NumberError, ProtocolError, StreamNameError, refusal_of
@@ -83,24 +84,77 @@ def append(name: str, time: int, value: int) -> str:
     return f"append {name_word(name)} {whole(time)} {whole(value)}"
 
 
-def appends(session: int, name: str, rows: Sequence[tuple[int, int]]) -> bytes:
-    """The tagged lines of many appends, each with its line end."""
-    head = f"@{session} append {name_word(name)}"
-    if len(head) > LONGEST_SENT:
-        raise refusal_of("LINE", f"{head[:LONGEST_LINE]}..")
+class Lines(Protocol):
+    """Commands that go together, before they are lines of a session."""
+
+    def lines(self, session: int) -> bytes:
+        """The tagged lines, each with its line end."""
+
+    def line(self, at: int) -> str:
+        """One of them, without its session."""
+
+    def and_more(self, others: Sequence[Self]) -> Self:
+        """The same with others of its kind behind it."""
+
+
+@dataclass(frozen=True)
+class Readings:
+    """Readings of one stream as whole numbers: of each its time, and then its value."""
+
+    name: str
+    numbers: Sequence[int]
+
+    def lines(self, session: int) -> bytes:
+        """The tagged lines, each with its line end."""
+        form = f"@{session} append {self.name}".replace("%", "%%") + " %d %d\n"
+        return (form * (len(self.numbers) // 2) % tuple(self.numbers)).encode("ascii")
+
+    def line(self, at: int) -> str:
+        """The line of one of them."""
+        return f"append {self.name} {self.numbers[2 * at]} {self.numbers[2 * at + 1]}"
+
+    def and_more(self, others: Sequence[Readings]) -> Readings:
+        """The same with others behind it."""
+        return Readings(self.name, [number for each in (self, *others) for number in each.numbers])
+
+
+@dataclass(frozen=True)
+class Paired:
+    """Readings of a time, a value and an increment. Each goes behind that of its increment, which goes to
+    the first of two streams."""
+
+    names: tuple[str, str]
+    rows: Sequence[tuple[int, int, int]]
+
+    def lines(self, session: int) -> bytes:
+        """The tagged lines, two for each, with their line ends."""
+        beside, name = (f"@{session} append {each}" for each in self.names)
+        return "".join([f"{beside} {time} {added}\n{name} {time} {value}\n"
+                        for time, value, added in self.rows]).encode("ascii")
+
+    def line(self, at: int) -> str:
+        """One of the lines."""
+        time, value, added = self.rows[at // 2]
+        return f"append {self.names[at % 2]} {time} {value if at % 2 else added}"
+
+    def and_more(self, others: Sequence[Paired]) -> Paired:
+        """The same with others behind it."""
+        return Paired(self.names, [row for each in (self, *others) for row in each.rows])
+
+
+def readings(name: str, rows: Sequence[tuple[int, int]]) -> Readings:
+    """Rows of a time and a value, of which each is two whole numbers."""
+    if len(name_word(name)) > LONGEST_SENT:
+        raise refusal_of("LINE", f"append {name[:LONGEST_LINE]}..")
     numbers = _plain(rows)
     if numbers is None:     # one by one, so that the row that isn't two whole numbers is told
         numbers = [number for time, value in rows for number in (whole(time), whole(value))]
-    form = head.replace("%", "%%") + " %d %d\n"
-    return (form * len(rows) % tuple(numbers)).encode("ascii")
+    return Readings(name, numbers)
 
 
-def paired(session: int, names: tuple[str, str], rows: Sequence[tuple[int, int, int]]) -> bytes:
-    """The tagged lines of readings of a time, a value and an increment: each behind that of its increment,
-    which goes to a stream of its own."""
-    beside, name = (f"@{session} append {name_word(each)}" for each in names)
-    return "".join([f"{beside} {time} {added}\n{name} {time} {value}\n" for time, value, added in rows]
-                   ).encode("ascii")
+def paired(names: tuple[str, str], rows: Sequence[tuple[int, int, int]]) -> Paired:
+    """Rows of a time, a value and an increment, for two streams."""
+    return Paired((name_word(names[0]), name_word(names[1])), rows)
 
 
 def _plain(rows: Sequence[tuple[int, int]]) -> Sequence[int] | None:

@@ -11,7 +11,8 @@ pub returns-clause-answer : goal.returns-clause-answer
 returns-clause-answer c = λ kind end seen certified has. IsEvidence-evidence_of kind end seen certified has
 
 pub returns-clause-stream : goal.returns-clause-stream
-returns-clause-stream c = λ kind end from to s certified is. IsEvidence-evidence_of kind end (seen_of kind from to s) certified (HasCuts-seen_of kind from to s is)
+returns-clause-stream c = λ kind end from to s certified is. IsEvidence-evidence_of kind end (seen_of kind from to s) certified
+    (HasCuts-seen_of kind from to s is)
 
 pub returns-clause-fill : goal.returns-clause-fill
 returns-clause-fill c = λ k s m M order low high. Fills-fill k s m M order low high

@@ -1,4 +1,4 @@
-use Rattle.ss_program.proofs.Common.{◌≡◌, ◌∙◌, ◌∷◌, sym, head_of, ap, state, reads-none, step-none, Brought}
+use Rattle.ss_program.proofs.Common.{◌∙◌, ◌∷◌, sym, head_of, ap, state, reads-none, step-none, Brought}
 use Rattle.ss_program.proofs.AnswerLemmas.{StoreIsIn-open, refuses_query-kept}
 use Rattle.ss_program.proofs.CertifyLemmas.{brings-certified, brings-refused_certify}
 use Rattle.ss_program.proofs.StepLemmas.{step-given}
@@ -32,6 +32,9 @@ returns-clause-begins g c =
 
 pub returns-clause-right : goal.returns-clause-right
 returns-clause-right g c taken =
-    let w = c.in_ok-evidence.evidence in
-    (w, c.in_ok-evidence.ensures.right, ap (λ r. r ∷ c.sides_of-lines.result.items) c.head.ensures
-    ∙ ap (λ rs. head_of w ∷ rs) c.sides_of-lines.ensures)
+    let w = c.in_ok-evidence.evidence in (
+      w,
+      c.in_ok-evidence.ensures.right,
+      λ parts streams. ap (λ r. r ∷ c.sides_of-lines.result.items) c.head.ensures
+          ∙ ap (λ rs. head_of w ∷ rs) c.sides_of-lines.ensures,
+    )

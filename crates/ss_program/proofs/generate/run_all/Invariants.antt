@@ -10,7 +10,8 @@ invariant-loop-command g l = record {
   done : l.tally.done ≤ l.tally.lines;
   refused : l.tally.refused ≤ l.tally.lines;
   is_open : IsOpen (g.D.Disk.seen l.disk) l.store;
-  at : Step fine (g.D.Disk.seen l.fn.disk) (g.D.Disk.seen l.disk) (λ old now. NothingPending old → (used : Option ℕ) (history : History) → StandsShort used history old.content →
+  at : Step fine (g.D.Disk.seen l.fn.disk) (g.D.Disk.seen l.disk) (λ old now. NothingPending old → (used : Option ℕ) (history : History) →
+      StandsShort used history old.content →
       IsAt used history l.fn.seed l.fn.count l.generator l.store.records old now l.tally);
 }
 

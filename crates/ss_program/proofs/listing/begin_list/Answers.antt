@@ -1,4 +1,4 @@
-use Rattle.ss_program.proofs.Common.{◌≡◌, ◌∙◌, ◌∷◌, refl, ap, state, streams-kept, ListHead, stream_rows}
+use Rattle.ss_program.proofs.Common.{◌∙◌, refl, streams-kept}
 use Rattle.ss_program.proofs.listing.begin_list.Goals as goal
 
 pub returns : goal.returns

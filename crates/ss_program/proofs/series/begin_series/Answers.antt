@@ -1,4 +1,4 @@
-use Rattle.ss_program.proofs.Common.{◌≡◌, ◌∙◌, ◌∷◌, refl, sym, ap, SeriesHead, state, series_rows, whole_query, refuses_query_held, Brought}
+use Rattle.ss_program.proofs.Common.{◌∙◌, ◌∷◌, sym, ap, SeriesHead, state, series_rows, whole_query, refuses_query_held, Brought}
 use Rattle.ss_program.proofs.AnswerLemmas.{refuses_query-kept}
 use Rattle.ss_program.proofs.SeriesLemmas.{brings-refused_series, brings-series}
 use Rattle.ss_program.proofs.series.begin_series.Goals as goal

@@ -1,5 +1,5 @@
-use Rattle.ss_program.proofs.Common.{◌≡◌, ◌∙◌, ◌<◌, None, Err, IsTrue, ap, arith, rules, row_count, whole_query, refuses_query_held, refuses_series, Series, state}
-use Rattle.ss_program.proofs.Common.{DiskView, reads-none, step-none, Stands, StoreState, IsOpen, History}
+use Rattle.ss_program.proofs.Common.{◌≡◌, ◌∙◌, ◌<◌, None, Err, IsTrue, ap, arith, rules, row_count, whole_query, refuses_query_held, refuses_series, Series}
+use Rattle.ss_program.proofs.Common.{state, DiskView, reads-none, step-none, Stands, StoreState, IsOpen, History}
 use Rattle.ss_program.proofs.AnswerLemmas.{StoreIsIn-open, refuses_query-kept}
 use Rattle.ss_program.proofs.SeriesLemmas.{row-taken_held, series-ended, series-taken, series-unread}
 use Rattle.ss_program.proofs.StepLemmas.{step-given}
@@ -18,7 +18,7 @@ returns-then-next-rows-clause-takes g c =
     step-none disk _ (λ told. record {
       row = λ history stands.
           let none = series-ended (state history) series (unrefused c.args.store.now disk series c.requires.open c.requires.stands.taken told history stands)
-              c.args.next.now (omega (arith, c.rows.ensures)) in
+          c.args.next.now (omega (arith, c.rows.ensures)) in
           (none, none);
       reads = reads-none disk.told;
     })

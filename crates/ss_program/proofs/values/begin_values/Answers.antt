@@ -1,4 +1,4 @@
-use Rattle.ss_program.proofs.Common.{◌≡◌, ap, part_numbered, Brought, command_brings, Values}
+use Rattle.ss_program.proofs.Common.{ap, part_numbered, Brought, command_brings, Values}
 use Rattle.ss_program.proofs.ValuesLemmas.{told-refused, told-values, values-begun, values-within}
 use Rattle.ss_program.proofs.values.begin_values.Goals as goal
 

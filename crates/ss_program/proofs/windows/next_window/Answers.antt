@@ -12,7 +12,7 @@ returns-in_default-clause-takes g c =
     step-none disk _ (λ told. record {
       row = λ history stands.
           let none = windows-ended (part_numbered number store.streams) (stream_numbered number (state history))
-              (held-kept store disk.told.content history number (StoreIsIn-open disk store c.requires.open told) stands c.requires.stands.stands) in
+          (held-kept store disk.told.content history number (StoreIsIn-open disk store c.requires.open told) stands c.requires.stands.stands) in
           rw c.in_default.is (none, none);
       reads = reads-none disk.told;
     })
@@ -42,7 +42,7 @@ returns-clause-takes g c =
     let next = c.window_after.result in
     let streams = c.in_ok-window.ensures.streams in
     let place = place-after part c.in-Some.at next (rw c.in-Some.is at c.requires.stands.at) (rw streams at c.window_after.ensures.at)
-        (rw streams at c.window_after.ensures.index) in
+    (rw streams at c.window_after.ensures.index) in
     step-given c.in_ok-window.ensures.reads (λ told reads. record {
       row = λ history stands. rw c.in-Some.is
           (windows-taken part (stream_numbered number (state history)) c.in-Some.at next c.in_ok-window.window c.requires.stands.stands

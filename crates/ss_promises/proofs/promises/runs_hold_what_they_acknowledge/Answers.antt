@@ -1,5 +1,6 @@
 use Rattle.ss_program.specs.declared.status.Status.TheVariants.{Done, OutOfMemory, SourceFault}
 use Rattle.ss_program.proofs.Common.{None, refl, Each, Shared, steps, begun}
+use Rattle.ss_promises.proofs.AckedLemmas.{HasBegun-ends, HoldsOks-serves, asked-some}
 use Rattle.ss_program.proofs.HeldLemmas.{StandsForFirst-within}
 use Rattle.ss_promises.proofs.promises.runs_hold_what_they_acknowledge.Goals as goal
 
@@ -36,3 +37,12 @@ returns-clause-asked_again g c mode left rest held holds number serves form seal
     let served = serves form sealing begins.asked SourceFault is input begins.source begins.tells begins.durable None history (begins.stands, tt) in
     let faulted = served.report.faulted refl in
     (faulted.0, faulted.1, faulted.2.all, faulted.2.others, faulted.3)
+
+pub returns-clause-ok_held : goal.returns-clause-ok_held
+returns-clause-ok_held g c mode left rest held holds faults faulted number serves ends status is form sealing history input begins had has is_had
+    is_has image may =
+    let ended = ends (asked-some mode form sealing begins.asked) status is in
+    HoldsOks-serves sealing (begun form history) input rest held holds (g.D.Disk.seen c.args.old.now).told (g.D.Disk.seen c.args.new.now).told status
+    (HasBegun-ends (g.D.Disk.seen c.args.old.now) (g.D.Disk.seen c.args.new.now) held holds faults faulted status history ended begins.tells begins.stands)
+    (serves form sealing begins.asked status is input begins.source begins.tells begins.durable None history (begins.stands, tt)) had has is_had
+    is_has image may

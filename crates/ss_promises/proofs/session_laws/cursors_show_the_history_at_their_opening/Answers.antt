@@ -1,6 +1,6 @@
 use Rattle.ss_program.proofs.Common.{Sessions, after_lines, begun}
 use Rattle.ss_promises.proofs.HeardLemmas.{cursor-opens, cursor-shows, cursor-shows-begun}
-use Rattle.ss_program.proofs.SessionLemmas.{after_lines-form}
+use Rattle.ss_program.proofs.ReportLemmas.{after_lines-form}
 use Rattle.ss_promises.proofs.session_laws.cursors_show_the_history_at_their_opening.Goals as goal
 
 pub returns-clause-opened : goal.returns-clause-opened

@@ -1,6 +1,5 @@
-use Rattle.ss_recover.proofs.Common.{◌&&◌, ◌∙◌, ◌≡◌, and_from, ap, ap₂, are_marks, has_sound_values_in_order, keep_step, Landmark, landmarks_made, later}
-use Rattle.ss_recover.proofs.Common.{lies_free, List, list_all, marks_in, Params, refl, step_number, subst, sym, tile, times_rise, true, windows_in}
-use Rattle.ss_recover.proofs.Common.{without_slots}
+use Rattle.ss_recover.proofs.Common.{◌&&◌, ◌∙◌, ◌≡◌, and_from, ap, ap₂, are_marks, are_sound, keep_step, Landmark, landmarks_made, later, lies_free, List}
+use Rattle.ss_recover.proofs.Common.{list_all, marks_in, Params, refl, step_number, subst, sym, tile, times_rise, true, windows_in, without_slots}
 use Rattle.ss_recover.proofs.building.build.Goals as goal
 
 pub returns : goal.returns
@@ -17,7 +16,7 @@ returns g c =
     subst (λ (p : Params). keep_step (step_number p.within) ws ≡ true) c.in-Ok.ensures.params (sym c.keep_step.ensures ∙ c.if-not-keep_step.false) in
     let free : list_all (lies_free (landmarks_made ms)) ws ≡ true =
     ap (λ (ls : List Landmark). list_all (lies_free ls) ws) (sym made.landmarks) ∙ sym c.lie_free.ensures ∙ c.if-not-lie_free.false in (
-      and_from (has_sound_values_in_order (without_slots rest) c.args.head.id) (keep_step (step_number c.args.head.params.within) ws)
+      and_from (are_sound ws ms) (keep_step (step_number c.args.head.params.within) ws)
           (and_from (tile ws && times_rise ws && are_marks ms) (list_all (lies_free (landmarks_made ms)) ws)
           (and_from (tile ws && times_rise ws) (are_marks ms) (and_from (tile ws) (times_rise ws) tiles rises) are) free) keeps,
       record {

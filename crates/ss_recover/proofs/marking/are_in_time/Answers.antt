@@ -1,4 +1,4 @@
-use Rattle.ss_recover.proofs.Common.{◌&&◌, ◌∙◌, ◌≡◌, All, All-tail, are_in_time, Found, is_in_time, IsUsable, List, next_from, Some, subst}
+use Rattle.ss_recover.proofs.Common.{◌&&◌, ◌∙◌, ◌≡◌, All, All-tail, are_in_time, Found, is_in_time, IsUsable, List, Some, subst}
 use Rattle.ss_recover.proofs.Common.{sym, true, without_slots}
 use Rattle.ss_recover.proofs.marking.are_in_time.Goals as goal
 

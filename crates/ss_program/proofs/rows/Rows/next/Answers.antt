@@ -15,4 +15,4 @@ returns-in-Values-clause-takes g c =
 pub returns-in-Lines-clause-takes : goal.returns-in-Lines-clause-takes
 returns-in-Lines-clause-takes g c =
     rw c.in-Lines.is (TakesHeld-read (g.D.Disk.seen c.args.disk.now) c.args.store.now c.requires.open (left.Lines c.in-Lines.lines c.in-Lines.next)
-    (left.Lines c.in-Lines.lines c.next_line.new.next) c.next_line.result c.next_line.ensures)
+    (left.Lines c.in-Lines.lines c.next_line.new.next) c.next_line.result c.next_line.ensures.takes)

@@ -10,8 +10,8 @@ returns-in-Series-clause-begins g c =
 
 pub returns-in-Values-clause-begins : goal.returns-in-Values-clause-begins
 returns-in-Values-clause-begins g c =
-    rw c.in-Values.is (Begins-read (g.D.Disk.seen c.args.disk.now) c.args.store.now c.requires.open (Values c.in-Values.name c.in-Values.from c.in-Values.to) c.begin_values.result
-    c.begin_values.ensures)
+    rw c.in-Values.is (Begins-read (g.D.Disk.seen c.args.disk.now) c.args.store.now c.requires.open
+    (Values c.in-Values.name c.in-Values.from c.in-Values.to) c.begin_values.result c.begin_values.ensures)
 
 pub returns-in-Windows-clause-begins : goal.returns-in-Windows-clause-begins
 returns-in-Windows-clause-begins g c =

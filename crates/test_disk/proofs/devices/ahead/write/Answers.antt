@@ -1,6 +1,5 @@
 use Rattle.std.proofs.Common.{◌⊎◌, Err, Ok, Result, inl, inr}
 use Rattle.std.specs.Prelude.{◌↔◌, IsErr, OnErr}
-use Rattle.ss_outside.specs.MemDisk.{IsListed, Suffices}
 use Rattle.test_disk.proofs.devices.ahead.write.Goals as goal
 
 -- a call that fails where it is listed, and else only beyond the spare
