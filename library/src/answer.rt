@@ -1,11 +1,11 @@
 // What a call answers.
-ghost use Rattle.std.specs.Prelude.{◌≤◌, IfOk};
+ghost use Rattle.std.specs.Prelude.{◌≡◌, ◌≤◌, pos, IfOk};
+ghost use Rattle.libsummarystore.specs.Answer as by;
 ghost use Rattle.ss_catalog.specs.Series.{IsSeriesInRange};
 ghost use Rattle.ss_base.specs.declared.limits.TheConstants.{LAST_TIME};
 
 use ss_base::LAST_TIME;
 use ss_catalog::{Kind, MOST_ROWS, Name, Refusal, Series, rows_in};
-use ss_connection::Taken;
 use ss_model::{Ack, Newest, Outcome};
 use ss_program::Status;
 use ss_report::Reply;
@@ -26,7 +26,9 @@ pub enum Why {
 }
 
 // Its place among the refusals.
-fn place(refusal: Refusal) -> u8 {
+fn place(refusal: Refusal) -> u8
+    ensures { result ≡ by.place refusal }
+{
     match refusal {
         Refusal::Line => 0,
         Refusal::Syntax => 1,
@@ -50,7 +52,9 @@ fn place(refusal: Refusal) -> u8 {
 
 impl Why {
     /// Its number in C, where 0 says that a call is done.
-    pub fn number(self) -> i32 {
+    pub fn number(self) -> i32
+        ensures { result ≡ pos (by.number self) }
+    {
         match self {
             Why::Stopped(status) => i32::from(status.number()),
             Why::Busy => 5,
@@ -62,7 +66,9 @@ impl Why {
 }
 
 /// The name that these bytes spell.
-pub fn name_of(word: &[u8]) -> Result<Name, Why> {
+pub fn name_of(word: &[u8]) -> Result<Name, Why>
+    ensures { result ≡ by.name_of word.now }
+{
     match Name::of(word) {
         Some(name) => Ok(name),
         None => Err(Why::Refused(Refusal::Name)),
@@ -71,7 +77,8 @@ pub fn name_of(word: &[u8]) -> Result<Name, Why> {
 
 /// A time that is one.
 pub fn in_time(time: u64) -> Result<u64, Why>
-    ensures { IfOk result (λ time. time ≤ LAST_TIME) }
+    ensures answer { result ≡ by.in_time time }
+    ensures bound { IfOk result (λ time. time ≤ LAST_TIME) }
 {
     if time <= LAST_TIME {
         Ok(time)
@@ -107,7 +114,9 @@ pub fn series_of(
 }
 
 // A reply that a call of this kind doesn't have.
-fn other(reply: Reply) -> Why {
+fn other(reply: Reply) -> Why
+    ensures { result ≡ by.other reply }
+{
     match reply {
         Reply::Refused(refusal) => Why::Refused(refusal),
         _ => Why::Misuse,
@@ -115,7 +124,9 @@ fn other(reply: Reply) -> Why {
 }
 
 /// What is acknowledged of an event.
-pub fn ack_of(reply: Result<Reply, Status>) -> Result<Ack, Why> {
+pub fn ack_of(reply: Result<Reply, Status>) -> Result<Ack, Why>
+    ensures { result ≡ by.ack_of reply }
+{
     match reply {
         Ok(Reply::Done(ack)) => Ok(ack),
         Ok(reply) => Err(other(reply)),
@@ -123,26 +134,34 @@ pub fn ack_of(reply: Result<Reply, Status>) -> Result<Ack, Why> {
     }
 }
 
-/// What was taken of values. A time that is none is a number that is none.
-pub fn taken_of(taken: Result<Taken, Status>) -> Result<Taken, Why> {
-    match taken {
-        Ok(taken) => Ok(taken),
+/// What a call answers that says no more than this.
+pub fn done_of<T: Drop>(done: Result<T, Status>) -> Result<T, Why>
+    ensures { result ≡ by.done_of done }
+{
+    match done {
+        Ok(value) => Ok(value),
         Err(status) => Err(Why::Stopped(status)),
     }
 }
 
 /// The answer to a query.
-pub fn outcome_of(reply: Reply) -> Result<Outcome, Why> {
+pub fn outcome_of(reply: Result<Reply, Status>) -> Result<Outcome, Why>
+    ensures { result ≡ by.outcome_of reply }
+{
     match reply {
-        Reply::Answered(outcome) => Ok(outcome),
-        reply => Err(other(reply)),
+        Ok(Reply::Answered(outcome)) => Ok(outcome),
+        Ok(reply) => Err(other(reply)),
+        Err(status) => Err(Why::Stopped(status)),
     }
 }
 
 /// How far a stream has come.
-pub fn newest_of(reply: Reply) -> Result<Newest, Why> {
+pub fn newest_of(reply: Result<Reply, Status>) -> Result<Newest, Why>
+    ensures { result ≡ by.newest_of reply }
+{
     match reply {
-        Reply::Last(newest) => Ok(newest),
-        reply => Err(other(reply)),
+        Ok(Reply::Last(newest)) => Ok(newest),
+        Ok(reply) => Err(other(reply)),
+        Err(status) => Err(Why::Stopped(status)),
     }
 }

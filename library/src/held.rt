@@ -1,12 +1,17 @@
 // A connection with its disk.
-ghost use Rattle.std.specs.Prelude.{◌≤◌, length, IfOk};
+ghost use Rattle.std.specs.Prelude.{◌≡◌, ◌≤◌, length, Result, Err, IfErr, IfOk, OnOk, IsTrue, IsFalse};
 ghost use Rattle.ss_catalog.specs.Series.{IsSeriesInRange};
-ghost use Rattle.libsummarystore.specs.Held.{IsReady};
+ghost use Rattle.ss_catalog.specs.declared.event.Event.TheVariants.{Create, Value};
+ghost use Rattle.ss_connection.specs.Calls.{SealsHeld};
+ghost use Rattle.ss_connection.specs.Many.{AppliesMany, StagesMany, values_at};
+ghost use Rattle.ss_program.specs.declared.status.Status.{Status};
+ghost use Rattle.libsummarystore.specs.Answer.{done_of, in_time, name_of};
+ghost use Rattle.libsummarystore.specs.Held.{Asks, CalledOnce, IsReady, IsStill, Knows, RepliesTo, Takes};
 
-use crate::answer::{Why, ack_of, in_time, name_of, newest_of, outcome_of, taken_of};
+use crate::answer::{Why, ack_of, done_of, in_time, name_of, newest_of, outcome_of};
 use crate::fill::fill;
 use crate::shapes::{CInterval, interval};
-use ss_catalog::{Event, Kind, Params, Query, Series};
+use ss_catalog::{Event, Kind, Name, Params, Query, Series};
 use ss_command::{Command, LINE_END, LONGEST_LINE, parse};
 use ss_connection::{Connection, Taken};
 use ss_model::{Ack, Newest, Outcome};
@@ -84,39 +89,78 @@ impl<D: Disk> Held<D> {
         }
     }
 
-    // Does an event, or stages it in a batch.
-    fn take(&mut self, event: &Event) -> Result<Ack, Why>
+    // The reply to an event, which is staged in a batch, and else brought to the disk.
+    fn reply_to(&mut self, event: &Event) -> Result<Reply, Status>
         requires { IsReady D.seen self.old }
         ensures ready { IsReady D.seen self.new }
+        ensures replies { RepliesTo D.seen event.now self.old self.new result }
+        ensures same { (self.new.is_batch ≡ self.old.is_batch) × (self.new.only_looks ≡ self.old.only_looks) }
     {
         self.shown = usize::MAX;
-        if self.only_looks {
-            return Err(Why::ReadOnly);
-        }
-        ack_of(if self.is_batch {
+        if self.is_batch {
             self.connection.stage(event, &mut self.disk)
         } else {
             self.connection.apply(event, &mut self.disk)
-        })
+        }
+    }
+
+    // Takes an event.
+    fn take(&mut self, event: &Event) -> Result<Ack, Why>
+        requires { IsReady D.seen self.old }
+        ensures ready { IsReady D.seen self.new }
+        ensures takes { Takes D.seen event.now self.old self.new result }
+    {
+        if self.only_looks {
+            return Err(Why::ReadOnly);
+        }
+        ack_of(self.reply_to(event))
     }
 
     /// Makes a stream.
     pub fn create(&mut self, name: &[u8], params: Params) -> Result<Ack, Why>
         requires { IsReady D.seen self.old }
         ensures ready { IsReady D.seen self.new }
+        ensures nameless { IfErr (name_of name.now) (λ why. (result ≡ Err why) × IsStill D.seen self.old self.new) }
+        ensures takes { IfOk (name_of name.now) (λ name. Takes D.seen (Create name params) self.old self.new result) }
     {
-        let name = name_of(name)?;
-        self.take(&Event::Create { name, params })
+        match name_of(name) {
+            Ok(name) => self.take(&Event::Create { name, params }),
+            Err(why) => Err(why),
+        }
     }
 
     /// Takes a value.
     pub fn append(&mut self, name: &[u8], time: u64, value: i64) -> Result<Ack, Why>
         requires { IsReady D.seen self.old }
         ensures ready { IsReady D.seen self.new }
+        ensures timeless { IfErr (in_time time) (λ why. (result ≡ Err why) × IsStill D.seen self.old self.new) }
+        ensures nameless { OnOk (in_time time) (IfErr (name_of name.now) (λ why. (result ≡ Err why) × IsStill D.seen self.old self.new)) }
+        ensures takes { OnOk (in_time time) (IfOk (name_of name.now) (λ name.
+            Takes D.seen (Value name time value) self.old self.new result)) }
     {
-        let t = in_time(time)?;
-        let name = name_of(name)?;
-        self.take(&Event::Value { name, t, v: value })
+        match (in_time(time), name_of(name)) {
+            (Err(why), _) => Err(why),
+            (_, Err(why)) => Err(why),
+            (Ok(t), Ok(name)) => self.take(&Event::Value { name, t, v: value }),
+        }
+    }
+
+    // Stages values in a batch, and else brings them to the disk together.
+    fn take_many(&mut self, name: &Name, times: &[u64], values: &[i64]) -> Result<Taken, Status>
+        requires { IsReady D.seen self.old }
+        ensures ready { IsReady D.seen self.new }
+        ensures staged { IsTrue self.old.is_batch → CalledOnce D.seen self.old self.new result
+            (StagesMany name.now (values_at name.now times.now values.now) self.old.connection.store.records self.new.connection.store.records result) }
+        ensures applied { IsFalse self.old.is_batch → CalledOnce D.seen self.old self.new result
+            (AppliesMany name.now (values_at name.now times.now values.now) self.old.connection.store.records self.new.connection.store.records result) }
+    {
+        if self.is_batch {
+            self.connection
+                .stage_many(name, times, values, &mut self.disk)
+        } else {
+            self.connection
+                .append_many(name, times, values, &mut self.disk)
+        }
     }
 
     /// Takes values, each at its time, until one is refused. Those that were taken come to the disk together, but in a batch.
@@ -134,36 +178,28 @@ impl<D: Disk> Held<D> {
         if self.only_looks {
             return Err(Why::ReadOnly);
         }
-        taken_of(if self.is_batch {
-            self.connection
-                .stage_many(&name, times, values, &mut self.disk)
-        } else {
-            self.connection
-                .append_many(&name, times, values, &mut self.disk)
-        })
+        done_of(self.take_many(&name, times, values))
     }
 
     /// Brings what waits to the disk.
     pub fn seal(&mut self) -> Result<(), Why>
         requires { IsReady D.seen self.old }
         ensures ready { IsReady D.seen self.new }
+        ensures seals { (sealed : Result Unit Status) × (result ≡ done_of sealed) × CalledOnce D.seen self.old self.new sealed
+            (SealsHeld self.old.connection.store.records self.new.connection.store.records sealed) }
     {
         self.shown = usize::MAX;
-        match self.connection.seal(&mut self.disk) {
-            Ok(()) => Ok(()),
-            Err(status) => Err(Why::Stopped(status)),
-        }
+        done_of(self.connection.seal(&mut self.disk))
     }
 
-    fn ask(&mut self, question: &Question) -> Result<Reply, Why>
+    // The reply to a question.
+    fn ask(&mut self, question: &Question) -> Result<Reply, Status>
         requires { IsReady D.seen self.old }
         ensures ready { IsReady D.seen self.new }
+        ensures asks { Asks D.seen question.now self.old self.new result }
     {
         self.shown = usize::MAX;
-        match self.connection.ask(question, &mut self.disk) {
-            Ok(reply) => Ok(reply),
-            Err(status) => Err(Why::Stopped(status)),
-        }
+        self.connection.ask(question, &mut self.disk)
     }
 
     /// What is known of the values with times from `from` to `to`.
@@ -174,20 +210,21 @@ impl<D: Disk> Held<D> {
         let from = in_time(from)?;
         let to = in_time(to)?;
         let name = name_of(name)?;
-        outcome_of(self.ask(&Question::Query(Query {
+        self.known(Query {
             name,
             kind,
             from,
             to,
-        }))?)
+        })
     }
 
-    // The answer to a query that is one.
+    // The answer to a query.
     fn known(&mut self, query: Query) -> Result<Outcome, Why>
         requires { IsReady D.seen self.old }
         ensures ready { IsReady D.seen self.new }
+        ensures knows { Knows D.seen query self.old self.new result }
     {
-        outcome_of(self.ask(&Question::Query(query))?)
+        outcome_of(self.ask(&Question::Query(query)))
     }
 
     /// The queries of a series: how many there are, and the answers to the first of them, as many as there is room for.
@@ -220,7 +257,7 @@ impl<D: Disk> Held<D> {
         ensures ready { IsReady D.seen self.new }
     {
         let name = name_of(name)?;
-        newest_of(self.ask(&Question::Newest(name))?)
+        newest_of(self.ask(&Question::Newest(name)))
     }
 
     /// How many streams stand.
