@@ -2,6 +2,8 @@
  * windows that get longer with age, and each query is answered by an interval that surely holds the truth. docs/GUIDE.md tells what the
  * commands, replies and refusals mean, and which promises are proved.
  *
+ * The whole file is in memory while it is open, up to some 134 MB, beside what the store itself needs.
+ *
  * Times are whole numbers from 0 to 2^62, in whatever unit the caller counts, and values are whole numbers of 64 bits. A name has 1 to 32
  * bytes, each a letter, a digit, `_`, `-` or `.`, and no 0 behind it: its length is handed in.
  *
@@ -24,13 +26,13 @@ extern "C" {
 
 #define SUMMARYSTORE_VERSION "1.0.0"
 
-/* What a call answers. From 3 to 9, but for 5, they are the program's, and the connection has stopped: each later call answers the same, and
- * does nothing. From 128 on stand the refusals: nothing was changed, and the connection goes on. */
+/* What a call answers. From 3 to 9 the connection has stopped: each later call that isn't a misuse answers the same, and does nothing. But
+ * for 5 they are the program's. From 128 on stand the refusals: nothing was changed, and the connection goes on. */
 enum {
     SUMMARYSTORE_DONE = 0,
     SUMMARYSTORE_REFUSED_STORE = 3,  /* the file is no store, or a damaged one; it was left as it was */
-    SUMMARYSTORE_DISK_FAULT = 4,     /* the file couldn't be opened, locked, read, written or synced */
-    SUMMARYSTORE_BUSY = 5,           /* another connection, or another process, has the file; of `open` alone */
+    SUMMARYSTORE_DISK_FAULT = 4,     /* the file couldn't be opened, locked, read, written or synced, or there was no memory for what is written */
+    SUMMARYSTORE_BUSY = 5,           /* another connection, or another process, has the file; of `open`, and then of each call */
     SUMMARYSTORE_OUT_OF_MEMORY = 7,
     SUMMARYSTORE_RECORD_CHANGED = 9, /* something else changed the file meanwhile */
     SUMMARYSTORE_MISUSE = 64,        /* a call that can't be meant; the connection goes on */
@@ -60,8 +62,7 @@ enum {
     SUMMARYSTORE_EXISTING = 1, /* makes no store: where there is none the answer is SUMMARYSTORE_DISK_FAULT */
     SUMMARYSTORE_CHECKED = 2,  /* makes a store with checksums where there is none; where a plain one stands, SUMMARYSTORE_DISK_FAULT */
     SUMMARYSTORE_BATCH = 4,    /* typed events wait until they are sealed */
-    SUMMARYSTORE_LOOK = 8      /* writes nothing, and shares the file with others that only look. Where a connection before left work in the
-                                  journal, as each does that stored something, SUMMARYSTORE_DISK_FAULT: open and close it once without LOOK */
+    SUMMARYSTORE_LOOK = 8      /* writes nothing, and shares the file with others that only look */
 };
 
 /* What a query asks for. */
@@ -88,7 +89,7 @@ typedef struct summarystore_ack {
     uint64_t windows; /* how many windows stand */
 } summarystore_ack;
 
-/* How the windows of a stream get longer: of EXP the numbers B, R and S and a 0, of POWER P, Q, R and S. */
+/* How the windows of a stream get longer: of EXP the numbers B, R and S, and one that isn't looked at, of POWER P, Q, R and S. */
 typedef struct summarystore_target {
     uint32_t family;
     uint32_t numbers[4];
@@ -107,7 +108,7 @@ typedef struct summarystore_interval {
     int32_t none;       /* 1: there is surely no value, so no least one, no greatest one and no mean, and the numbers are 0; else 0 */
     int32_t maybe_none; /* 1: there may be no value; else 0. Of a count or a sum both are 0. */
     summarystore_number lo, hi;
-    summarystore_number guess; /* the likeliest, of `summarystore_estimate` alone; else 0 */
+    summarystore_number guess; /* the likeliest, of `summarystore_estimate` alone; else 0, under 1 */
 } summarystore_interval;
 
 /* How far a stream has come. */
@@ -122,17 +123,18 @@ typedef struct summarystore_newest {
 /* Opens the store at a path, which has so many bytes, and makes it where there is none and the flags allow it. The file is locked until the
  * connection is closed, and a store that was made is durable when the call returns.
  * Where the answer isn't 0, *connection has stopped, and tells why by `summarystore_message`; it is to be closed as any, and has no file. It
- * is null where there was no memory for one, and at a misuse: an unknown flag, or a path that isn't UTF-8 or has a 0 in it. */
+ * is null where there was no memory for one, and at a misuse: an unknown flag, LOOK with CHECKED or BATCH, or a path of more than 4,096 bytes
+ * or with a 0 in it. */
 int summarystore_open(const char *path, size_t length, unsigned flags, summarystore **connection);
 
-/* Makes durable what waits, gives the lock back, and frees the connection, whatever the answer is. The answer is that of
- * `summarystore_seal`, and 0 for a null pointer. */
+/* Makes durable what waits, gives the lock back, also where a child of `fork` has the file open, and frees the connection, whatever the answer
+ * is. The answer is that of `summarystore_seal`, and 0 for a null pointer. */
 int summarystore_close(summarystore *connection);
 
 /* Why the connection has stopped, or 0 where it goes on. */
 int summarystore_status(const summarystore *connection);
 
-/* The same in the program's words, with the system's in brackets, and '' where it goes on. The text stays until the next call. */
+/* The same in words, with the system's in brackets, and '' where it goes on. The text stays until the next call. */
 const char *summarystore_message(const summarystore *connection);
 
 /* Does one line of the program's grammar, which may end in a line end but has none inside. The reply is the text that the program prints: a
@@ -140,8 +142,8 @@ const char *summarystore_message(const summarystore *connection);
  * first lines, and `summarystore_next` has the rest. What the line changes, and what waited, is durable when the call returns. */
 int summarystore_call(summarystore *connection, const char *line, size_t length, summarystore_text *reply);
 
-/* Further rows of the last call's reply, whole lines; a length of 0 says that there are no more. Any other call but `status` and `message`
- * ends them. */
+/* Further rows of the last call's reply, whole lines; a length of 0 says that there are no more. Any other call but `status`,
+ * `message` and a misuse ends them. */
 int summarystore_next(summarystore *connection, summarystore_text *rows);
 
 /* Typed events. Each is durable when it returns, but in a batch when it is sealed. The `ack` may be null. The reasons for which one is refused
@@ -154,8 +156,9 @@ int summarystore_create(summarystore *connection, const char *name, size_t lengt
 int summarystore_append(summarystore *connection, const char *name, size_t length, uint64_t time, int64_t value, summarystore_ack *ack);
 
 /* Takes so many values, each at its time, until one is refused; the answer is then that of the refused one. *taken says how many were taken
- * before, which are durable together when the call returns, and `ack` is that of the last of them, set where there is one. Where the answer is
- * a stop, *taken is 0, and some first ones may be on the disk. */
+ * before, which are durable when the call returns, or in a batch when it is sealed, and `ack` is that of the last of them, set where there is
+ * one. The name is looked at before the times. A crash meanwhile leaves some first of them. Where the answer is a stop, *taken is 0, and some
+ * first ones may be on the disk. */
 int summarystore_append_many(summarystore *connection, const char *name, size_t length, const uint64_t *times, const int64_t *values,
                              size_t count, size_t *taken, summarystore_ack *ack);
 

@@ -1,5 +1,6 @@
-/* The calls of include/summarystore.h. Each looks that no pointer is null and no length absurd, and hands the rest to the proved library. No
- * proof covers this file: it is trusted. */
+/* The calls of include/summarystore.h. Each looks that no pointer is null and no length absurd, hands the rest to the proved library, and then
+ * does to the file what that has noted, before it hands the answer on. No proof covers this file: it is trusted. */
+#include "file.h"
 #include "held.h"
 
 #include <stdlib.h>
@@ -8,15 +9,28 @@
 #define LONGEST_NAME 32
 #define LONGEST_PATH 4096
 #define MOST_SAID 16384
+#define FIRST_ROOM 65536
 #define KNOWN_FLAGS (SUMMARYSTORE_EXISTING | SUMMARYSTORE_CHECKED | SUMMARYSTORE_BATCH | SUMMARYSTORE_LOOK)
 
 typedef unsigned char byte;
 
 struct summarystore {
     struct held held;
+    struct file file;
+    int stopped; /* why the file can't be used, or 0 */
+    char path[LONGEST_PATH + 1];
     char message[LONGEST_PATH + 256];
     char text[MOST_SAID + 1];
+    byte *room; /* for what is written */
+    size_t size;
 };
+
+/* Stops the connection: no further call is made of the proved library or the file. */
+static int stops(summarystore *connection, int status)
+{
+    connection->stopped = status;
+    return status;
+}
 
 /* Keeps what there is to say of a stop, and hands the answer on. */
 static int told(summarystore *connection, int answer)
@@ -27,6 +41,37 @@ static int told(summarystore *connection, int answer)
         connection->message[filled < room ? filled : room] = 0;
     }
     return answer;
+}
+
+/* Makes the room for what is written as long as it has to be. */
+static int widen(summarystore *connection, size_t size)
+{
+    byte *room = realloc(connection->room, size);
+    if (room == NULL) {
+        strcpy(connection->message, "no memory for what is to be written to the file");
+        return SUMMARYSTORE_DISK_FAULT;
+    }
+    connection->room = room;
+    connection->size = size;
+    return 0;
+}
+
+/* Does to the file what is noted, in that order, and then hands the answer on. Where something can't be done the connection stops. */
+static int done(summarystore *connection, int answer)
+{
+    char *message = connection->message;
+    size_t room = sizeof connection->message, count = 0;
+    uint64_t at = 0;
+    int next, failed = 0;
+    while (failed == 0 && (next = summarystore_held_take(&connection->held, &at, connection->room, connection->size, &count)) != HELD_NOTHING) {
+        if (next == HELD_WRITE)
+            failed = file_write(&connection->file, at, connection->room, count, connection->path, message, room);
+        else if (next == HELD_SYNC)
+            failed = file_sync(&connection->file, connection->path, message, room);
+        else
+            failed = widen(connection, count);
+    }
+    return failed != 0 ? stops(connection, failed) : told(connection, answer);
 }
 
 /* Whether there is a name that may be one. */
@@ -47,6 +92,26 @@ static int is_array(const void *first, size_t count)
     return (first != NULL || count == 0) && count <= PTRDIFF_MAX / 8;
 }
 
+/* Opens the file, and then the store that it holds. Of a file that was refused nothing is written. */
+static int begins(summarystore *made, unsigned flags)
+{
+    byte *content = NULL;
+    size_t length = 0;
+    int answer = file_open(&made->file, made->path, flags, &content, &length, made->message, sizeof made->message);
+    if (answer == 0 && made->room == NULL)
+        answer = SUMMARYSTORE_OUT_OF_MEMORY;
+    if (answer == 0)
+        answer = summarystore_held_open(content, length, flags & ~(unsigned)SUMMARYSTORE_EXISTING, &made->held);
+    free(content);
+    if (answer == 0)
+        answer = done(made, answer);
+    if (answer == 0)
+        return answer;
+    told(made, answer);
+    file_close(&made->file);
+    return stops(made, answer);
+}
+
 int summarystore_open(const char *path, size_t length, unsigned flags, summarystore **connection)
 {
     if (connection == NULL)
@@ -59,27 +124,30 @@ int summarystore_open(const char *path, size_t length, unsigned flags, summaryst
     summarystore *made = calloc(1, sizeof *made);
     if (made == NULL)
         return SUMMARYSTORE_OUT_OF_MEMORY;
-    int answer = summarystore_held_open((const byte *)path, length, flags, &made->held);
-    if (made->held.at == NULL) {
-        free(made);
-        return answer;
-    }
+    memcpy(made->path, path, length);
+    made->room = malloc(FIRST_ROOM);
+    made->size = made->room != NULL ? FIRST_ROOM : 0;
     *connection = made;
-    return told(made, answer);
+    return begins(made, flags);
 }
 
 int summarystore_close(summarystore *connection)
 {
     if (connection == NULL)
         return SUMMARYSTORE_DONE;
-    int answer = summarystore_held_close(&connection->held);
+    int answer = summarystore_seal(connection);
+    summarystore_held_free(&connection->held);
+    file_close(&connection->file);
+    free(connection->room);
     free(connection);
     return answer;
 }
 
 int summarystore_status(const summarystore *connection)
 {
-    return connection != NULL ? summarystore_held_status((struct held *)&connection->held) : SUMMARYSTORE_MISUSE;
+    if (connection == NULL || connection->stopped != 0)
+        return connection != NULL ? connection->stopped : SUMMARYSTORE_MISUSE;
+    return summarystore_held_status((struct held *)&connection->held);
 }
 
 const char *summarystore_message(const summarystore *connection)

@@ -67,6 +67,12 @@ void try_pieces(void)
     HOLDS(summarystore_query(store, "w", 1, SUMMARYSTORE_SUM, 0, MANY, &answer) == SUMMARYSTORE_DONE);
     HOLDS(is_number(answer.lo, -49995000, 1) && is_number(answer.hi, -49995000, 1));
     HOLDS(summarystore_next(store, &text) == SUMMARYSTORE_DONE && text.length == 0);
+    HOLDS(summarystore_call(store, "windows w", 9, &text) == SUMMARYSTORE_DONE);
+    HOLDS(summarystore_append(store, "w", 1, UINT64_MAX, 1, NULL) == SUMMARYSTORE_REFUSED_NUMBER);
+    HOLDS(summarystore_next(store, &text) == SUMMARYSTORE_DONE && text.length == 0);
+    HOLDS(summarystore_call(store, "windows w", 9, &text) == SUMMARYSTORE_DONE);
+    HOLDS(summarystore_streams(store, &taken) == SUMMARYSTORE_DONE && taken == 1);
+    HOLDS(summarystore_next(store, &text) == SUMMARYSTORE_DONE && text.length == 0);
     HOLDS(summarystore_close(store) == SUMMARYSTORE_DONE && summarystore_close(other) == SUMMARYSTORE_DONE);
 }
 
@@ -109,12 +115,12 @@ void try_questions(void)
     int presence = -1;
     summarystore *store = begun("questions.store", 0);
     HOLDS(summarystore_query(store, "a", 1, SUMMARYSTORE_SUM, 0, 25, &answer) == SUMMARYSTORE_DONE && is_number(answer.lo, 2, 1));
-    HOLDS(is_number(answer.hi, 2, 1) && !answer.none && !answer.maybe_none && answer.guess.under == 0);
+    HOLDS(is_number(answer.hi, 2, 1) && !answer.none && !answer.maybe_none && is_number(answer.guess, 0, 1));
     HOLDS(summarystore_query(store, "a", 1, SUMMARYSTORE_MEAN, 0, 25, &answer) == SUMMARYSTORE_DONE && is_number(answer.lo, 1, 1));
     HOLDS(summarystore_query(store, "a", 1, SUMMARYSTORE_MEAN, 0, 99, &answer) == SUMMARYSTORE_DONE && is_number(answer.hi, 10, 3));
     HOLDS(summarystore_query(store, "a", 1, SUMMARYSTORE_MIN, 0, 99, &answer) == SUMMARYSTORE_DONE && is_number(answer.lo, -3, 1));
     HOLDS(summarystore_query(store, "a", 1, SUMMARYSTORE_MAX, 12, 18, &answer) == SUMMARYSTORE_DONE && answer.none);
-    HOLDS(summarystore_query(store, "a", 1, SUMMARYSTORE_MAX, 40, 50, &answer) == SUMMARYSTORE_DONE && answer.none && answer.hi.under == 0);
+    HOLDS(summarystore_query(store, "a", 1, SUMMARYSTORE_MAX, 40, 50, &answer) == SUMMARYSTORE_DONE && answer.none && is_number(answer.hi, 0, 1));
     HOLDS(summarystore_query(store, "a", 1, SUMMARYSTORE_SUM, 40, 50, &answer) == SUMMARYSTORE_DONE && !answer.none && is_number(answer.lo, 0, 1));
     HOLDS(summarystore_query(store, "a", 1, SUMMARYSTORE_SUM, 2, 1, &answer) == SUMMARYSTORE_REFUSED_RANGE);
     HOLDS(summarystore_query(store, "b", 1, SUMMARYSTORE_SUM, 1, 2, &answer) == SUMMARYSTORE_REFUSED_UNKNOWN);

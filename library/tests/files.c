@@ -88,13 +88,13 @@ void try_looking(void)
     struct stat before, after;
     unsigned look = SUMMARYSTORE_LOOK | SUMMARYSTORE_EXISTING;
     HOLDS(summarystore_close(begun("looked.store", 0)) == SUMMARYSTORE_DONE);
-    HOLDS(summarystore_close(opened("looked.store", 0)) == SUMMARYSTORE_DONE);
     HOLDS(stat("looked.store", &before) == 0);
     store = opened("looked.store", look);
     second = opened("looked.store", look);
     HOLDS(counted(store, "a") == 3 && counted(second, "a") == 3);
     HOLDS(summarystore_append(store, "a", 1, 40, 1, NULL) == SUMMARYSTORE_READ_ONLY);
     HOLDS(summarystore_call(store, "append a 40 1", 13, &reply) == SUMMARYSTORE_READ_ONLY);
+    HOLDS(summarystore_call(store, "append a 40 1\r\n", 15, &reply) == SUMMARYSTORE_READ_ONLY);
     HOLDS(summarystore_status(store) == SUMMARYSTORE_DONE && counted(store, "a") == 3);
     HOLDS(says(store, "query a sum 0 99", "sum 10 10\n"));
     HOLDS(summarystore_open(NAMED("looked.store"), 0, &third) == SUMMARYSTORE_BUSY);
