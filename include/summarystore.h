@@ -11,7 +11,8 @@
  * - A connection is one that `summarystore_open` gave and `summarystore_close` hasn't taken. One thread uses it at a time, and who hands it
  *   to another orders that by a lock or a join. Two connections may be used at the same time.
  * - A pointer with a length is readable so far, a pointer to an answer has room for one, and arrays have as many entries as is said.
- * - No call is made from a signal handler. A child of `fork` uses and closes no connection of its parent.
+ * - No call is made from a signal handler. A child of `fork` uses and closes no connection of its parent; where the parent ends without closing
+ *   it, the file stays locked until the child ends, or becomes another program.
  * What can be seen, as a null pointer, is answered by SUMMARYSTORE_MISUSE, and nothing is done. Where an answer is wanted no null is taken.
  * An answer is set where the status is 0, and else where it is said. */
 #ifndef SUMMARYSTORE_H
@@ -32,7 +33,7 @@ enum {
     SUMMARYSTORE_DONE = 0,
     SUMMARYSTORE_REFUSED_STORE = 3,  /* the file is no store, or a damaged one; it was left as it was */
     SUMMARYSTORE_DISK_FAULT = 4,     /* the file couldn't be opened, locked, read, written or synced, or there was no memory for what is written */
-    SUMMARYSTORE_BUSY = 5,           /* another connection, or another process, has the file; of `open`, and then of each call */
+    SUMMARYSTORE_BUSY = 5,           /* another connection, or another process, has the file; from `open`, and then from each call */
     SUMMARYSTORE_OUT_OF_MEMORY = 7,
     SUMMARYSTORE_RECORD_CHANGED = 9, /* something else changed the file meanwhile */
     SUMMARYSTORE_MISUSE = 64,        /* a call that can't be meant; the connection goes on */
@@ -89,14 +90,14 @@ typedef struct summarystore_ack {
     uint64_t windows; /* how many windows stand */
 } summarystore_ack;
 
-/* How the windows of a stream get longer: of EXP the numbers B, R and S, and one that isn't looked at, of POWER P, Q, R and S. */
+/* How the windows of a stream get longer: of EXP the numbers B, R and S, and a fourth that isn't looked at, of POWER P, Q, R and S. */
 typedef struct summarystore_target {
     uint32_t family;
     uint32_t numbers[4];
     uint32_t within; /* no window crosses a multiple of it; 0 where there is no such bound */
 } summarystore_target;
 
-/* The number (high * 2^64 + low) / under. `under` is 1 but for a mean, which is in lowest terms. */
+/* The number (high * 2^64 + low) / under. `under` is 1 but for a mean, which is in lowest terms, and never 0. */
 typedef struct summarystore_number {
     int64_t high;
     uint64_t low;
@@ -105,10 +106,10 @@ typedef struct summarystore_number {
 
 /* What is answered: the truth is at least `lo` and at most `hi`, where there is a value in the range. */
 typedef struct summarystore_interval {
-    int32_t none;       /* 1: there is surely no value, so no least one, no greatest one and no mean, and the numbers are 0; else 0 */
+    int32_t none;       /* 1: there is surely no value, so no least one, no greatest one and no mean, and the numbers are 0 / 1; else 0 */
     int32_t maybe_none; /* 1: there may be no value; else 0. Of a count or a sum both are 0. */
     summarystore_number lo, hi;
-    summarystore_number guess; /* the likeliest, of `summarystore_estimate` alone; else 0, under 1 */
+    summarystore_number guess; /* the likeliest, of `summarystore_estimate` alone; else 0 / 1 */
 } summarystore_interval;
 
 /* How far a stream has come. */
@@ -123,12 +124,12 @@ typedef struct summarystore_newest {
 /* Opens the store at a path, which has so many bytes, and makes it where there is none and the flags allow it. The file is locked until the
  * connection is closed, and a store that was made is durable when the call returns.
  * Where the answer isn't 0, *connection has stopped, and tells why by `summarystore_message`; it is to be closed as any, and has no file. It
- * is null where there was no memory for one, and at a misuse: an unknown flag, LOOK with CHECKED or BATCH, or a path of more than 4,096 bytes
- * or with a 0 in it. */
+ * is null where there was no memory for one, and at a misuse: an unknown flag, LOOK with another than EXISTING, or a path of more than 4,096
+ * bytes or with a 0 in it. */
 int summarystore_open(const char *path, size_t length, unsigned flags, summarystore **connection);
 
-/* Makes durable what waits, gives the lock back, also where a child of `fork` has the file open, and frees the connection, whatever the answer
- * is. The answer is that of `summarystore_seal`, and 0 for a null pointer. */
+/* Makes durable what waits, unless the connection has stopped, gives the lock back, also where a child of `fork` has the file open, and frees
+ * the connection, whatever the answer is. The answer is that of `summarystore_seal`, and 0 for a null pointer. */
 int summarystore_close(summarystore *connection);
 
 /* Why the connection has stopped, or 0 where it goes on. */
@@ -142,12 +143,12 @@ const char *summarystore_message(const summarystore *connection);
  * first lines, and `summarystore_next` has the rest. What the line changes, and what waited, is durable when the call returns. */
 int summarystore_call(summarystore *connection, const char *line, size_t length, summarystore_text *reply);
 
-/* Further rows of the last call's reply, whole lines; a length of 0 says that there are no more. Any other call but `status`,
- * `message` and a misuse ends them. */
+/* Further rows of the last call's reply, whole lines; a length of 0 says that there are no more. Any other call that isn't a misuse ends
+ * them, but for `status` and `message`. */
 int summarystore_next(summarystore *connection, summarystore_text *rows);
 
-/* Typed events. Each is durable when it returns, but in a batch when it is sealed. The `ack` may be null. The reasons for which one is refused
- * are tested in the order in which they are told. */
+/* Typed events. Each is durable when it returns, but in a batch when it is sealed: until then a crash or a stop leaves some first ones of those
+ * that wait. The `ack` may be null. The reasons for which one is refused are tested in the order in which they are told. */
 
 /* Makes a stream. Refused by NAME, PARAM, EXISTS, STREAMS or STORE_FULL. */
 int summarystore_create(summarystore *connection, const char *name, size_t length, const summarystore_target *target, summarystore_ack *ack);

@@ -5,7 +5,7 @@ import re
 from collections import defaultdict
 
 TOKEN = re.compile(r"'\w+\b(?!')|'(?:\\.|[^'\\])'|\w+|::|->|=>|\.\.=?|[^\s\w]")
-HEAD = re.compile(r"(?:pub(?:\([^)]*\))? )?(?:const )?(?:unsafe )?(?:extern )?fn (\w+)")
+HEAD = re.compile(r'(?:pub(?:\([^)]*\))? )?(?:const )?(?:unsafe )?(?:extern (?:"C" )?)?fn (\w+)')
 OPEN, CLOSED = "([{<", ")]}>"
 
 

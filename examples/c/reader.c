@@ -3,7 +3,7 @@
  *     cc reader.c $(pkg-config --cflags --libs summarystore) -o reader
  *     ./reader room.store hall 1764374400 1764460799
  *
- * Each line has the two ends between which the truth lies. The store isn't made where there is none. */
+ * Each line has the two ends between which the truth lies. It only looks, so several may do so at once, while nobody writes. */
 #include <inttypes.h>
 #include <stdio.h>
 #include <string.h>
@@ -27,7 +27,7 @@ int main(int count, char **words)
 
     if (count != 5 || sscanf(words[3], "%19" SCNu64, &from) != 1 || sscanf(words[4], "%19" SCNu64, &to) != 1)
         return fprintf(stderr, "usage: reader STORE NAME FROM TO\n"), 2;
-    int status = summarystore_open(words[1], strlen(words[1]), SUMMARYSTORE_EXISTING, &store);
+    int status = summarystore_open(words[1], strlen(words[1]), SUMMARYSTORE_EXISTING | SUMMARYSTORE_LOOK, &store);
     for (int kind = SUMMARYSTORE_COUNT; status == SUMMARYSTORE_DONE && kind <= SUMMARYSTORE_MEAN; kind++) {
         status = summarystore_query(store, words[2], strlen(words[2]), kind, from, to, &answer);
         if (status != SUMMARYSTORE_DONE)

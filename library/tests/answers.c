@@ -68,7 +68,7 @@ void try_pieces(void)
     HOLDS(is_number(answer.lo, -49995000, 1) && is_number(answer.hi, -49995000, 1));
     HOLDS(summarystore_next(store, &text) == SUMMARYSTORE_DONE && text.length == 0);
     HOLDS(summarystore_call(store, "windows w", 9, &text) == SUMMARYSTORE_DONE);
-    HOLDS(summarystore_append(store, "w", 1, UINT64_MAX, 1, NULL) == SUMMARYSTORE_REFUSED_NUMBER);
+    HOLDS(summarystore_append(store, "a/b", 3, 1, 1, NULL) == SUMMARYSTORE_REFUSED_NAME);
     HOLDS(summarystore_next(store, &text) == SUMMARYSTORE_DONE && text.length == 0);
     HOLDS(summarystore_call(store, "windows w", 9, &text) == SUMMARYSTORE_DONE);
     HOLDS(summarystore_streams(store, &taken) == SUMMARYSTORE_DONE && taken == 1);
@@ -80,6 +80,7 @@ void try_events(void)
 {
     static const uint64_t times[5] = {40, 50, 50, 60, 70};
     static const int64_t values[5] = {1, 2, 3, 4, INT64_MIN};
+    static const uint64_t beyond_time = ((uint64_t)1 << 62) + 1;
     summarystore_target days = {SUMMARYSTORE_EXP, {2, 60, 1, 0}, 86400}, beyond = {SUMMARYSTORE_EXP, {17, 1, 1, 0}, 0};
     summarystore_target power = {SUMMARYSTORE_POWER, {1, 1, 4, 1}, 0};
     summarystore_ack ack = {9, 9};
@@ -95,10 +96,13 @@ void try_events(void)
     HOLDS(summarystore_append_many(store, "a", 1, times + 3, values + 3, 2, &taken, &ack) == SUMMARYSTORE_DONE);
     HOLDS(taken == 2 && ack.values == 7);
     HOLDS(summarystore_append_many(store, "a", 1, NULL, NULL, 0, &taken, NULL) == SUMMARYSTORE_DONE && taken == 0);
+    HOLDS(summarystore_append_many(store, "a", 1, &beyond_time, values, 1, &taken, NULL) == SUMMARYSTORE_REFUSED_NUMBER && taken == 0);
+    HOLDS(summarystore_append_many(store, "a/b", 3, &beyond_time, values, 1, &taken, NULL) == SUMMARYSTORE_REFUSED_NUMBER && taken == 0);
+    HOLDS(summarystore_append(store, "a/b", 3, beyond_time, 1, NULL) == SUMMARYSTORE_REFUSED_NUMBER);
     HOLDS(summarystore_append_many(store, "b", 1, times, values, 5, &taken, NULL) == SUMMARYSTORE_REFUSED_UNKNOWN && taken == 0);
     HOLDS(summarystore_append(store, "a", 1, 80, INT64_MAX, &ack) == SUMMARYSTORE_DONE && ack.values == 8);
     HOLDS(summarystore_append(store, "a", 1, 80, 1, &ack) == SUMMARYSTORE_REFUSED_TIME && ack.values == 8);
-    HOLDS(summarystore_append(store, "a", 1, ((uint64_t)1 << 62) + 1, 1, &ack) == SUMMARYSTORE_REFUSED_NUMBER);
+    HOLDS(summarystore_append(store, "a", 1, beyond_time, 1, &ack) == SUMMARYSTORE_REFUSED_NUMBER);
     HOLDS(summarystore_append(store, "a", 1, (uint64_t)1 << 62, 1, NULL) == SUMMARYSTORE_DONE && counted(store, "a") == 9);
     HOLDS(summarystore_seal(store) == SUMMARYSTORE_DONE);
     HOLDS(summarystore_close(store) == SUMMARYSTORE_DONE);

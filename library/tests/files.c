@@ -39,12 +39,28 @@ static int has_bytes(const char *path, const void *bytes, size_t length)
 void try_files(void)
 {
     static const char zeros[20] = "\0hello", text[] = "hello";
+    static const summarystore_target target = {SUMMARYSTORE_EXP, {2, 1, 1, 0}, 0};
     summarystore *store, *second;
     summarystore_text reply;
+    summarystore_interval answer;
+    summarystore_newest newest;
+    uint64_t time = UINT64_MAX;
+    int64_t value = 1;
+    size_t count = 7;
+    int presence;
     HOLDS(summarystore_open(NAMED("no/folder.store"), 0, &store) == SUMMARYSTORE_DISK_FAULT && has_message(store, "no such folder"));
     HOLDS(summarystore_status(store) == SUMMARYSTORE_DISK_FAULT);
     HOLDS(summarystore_call(store, "list", 4, &reply) == SUMMARYSTORE_DISK_FAULT);
     HOLDS(summarystore_append(store, "a", 1, 1, 1, NULL) == SUMMARYSTORE_DISK_FAULT);
+    HOLDS(summarystore_append(store, "a/b", 3, UINT64_MAX, 1, NULL) == SUMMARYSTORE_DISK_FAULT);
+    HOLDS(summarystore_append_many(store, "a/b", 3, &time, &value, 1, &count, NULL) == SUMMARYSTORE_DISK_FAULT && count == 0);
+    HOLDS(summarystore_create(store, "a/b", 3, &target, NULL) == SUMMARYSTORE_DISK_FAULT);
+    HOLDS(summarystore_query(store, "a/b", 3, SUMMARYSTORE_SUM, 2, 1, &answer) == SUMMARYSTORE_DISK_FAULT);
+    HOLDS(summarystore_estimate(store, "a/b", 3, SUMMARYSTORE_SUM, 2, 1, &answer) == SUMMARYSTORE_DISK_FAULT);
+    HOLDS(summarystore_series(store, "a/b", 3, SUMMARYSTORE_SUM, 2, 1, 0, &answer, 1, &count) == SUMMARYSTORE_DISK_FAULT);
+    HOLDS(summarystore_has(store, "a/b", 3, 1, 2, 1, &presence) == SUMMARYSTORE_DISK_FAULT);
+    HOLDS(summarystore_last(store, "a/b", 3, &newest) == SUMMARYSTORE_DISK_FAULT);
+    HOLDS(summarystore_streams(store, &count) == SUMMARYSTORE_DISK_FAULT && summarystore_next(store, &reply) == SUMMARYSTORE_DISK_FAULT);
     HOLDS(summarystore_seal(store) == SUMMARYSTORE_DISK_FAULT);
     summarystore_close(store);
     HOLDS(summarystore_open(NAMED("none.store"), SUMMARYSTORE_EXISTING, &store) == SUMMARYSTORE_DISK_FAULT);
@@ -86,6 +102,7 @@ void try_looking(void)
     summarystore *store, *second, *third;
     summarystore_text reply;
     struct stat before, after;
+    char line[257];
     unsigned look = SUMMARYSTORE_LOOK | SUMMARYSTORE_EXISTING;
     HOLDS(summarystore_close(begun("looked.store", 0)) == SUMMARYSTORE_DONE);
     HOLDS(stat("looked.store", &before) == 0);
@@ -95,6 +112,10 @@ void try_looking(void)
     HOLDS(summarystore_append(store, "a", 1, 40, 1, NULL) == SUMMARYSTORE_READ_ONLY);
     HOLDS(summarystore_call(store, "append a 40 1", 13, &reply) == SUMMARYSTORE_READ_ONLY);
     HOLDS(summarystore_call(store, "append a 40 1\r\n", 15, &reply) == SUMMARYSTORE_READ_ONLY);
+    memset(line, ' ', sizeof line);
+    memcpy(line, "append a 40 1", 13);
+    line[256] = '\r';
+    HOLDS(summarystore_call(store, line, 257, &reply) == SUMMARYSTORE_READ_ONLY);
     HOLDS(summarystore_status(store) == SUMMARYSTORE_DONE && counted(store, "a") == 3);
     HOLDS(says(store, "query a sum 0 99", "sum 10 10\n"));
     HOLDS(summarystore_open(NAMED("looked.store"), 0, &third) == SUMMARYSTORE_BUSY);
@@ -182,10 +203,11 @@ static int fill_up(void)
     }
     fclose(told);
     int again = summarystore_append(store, "w", 1, 100001, 7, NULL);
+    int named = summarystore_append(store, "a/b", 3, UINT64_MAX, 7, NULL);
     int asked = summarystore_query(store, "w", 1, SUMMARYSTORE_COUNT, 0, 9, &answer);
     int has_words = summarystore_message(store)[0] != 0;
     int closed = summarystore_close(store);
-    return again == stopped && asked == stopped && closed == stopped && has_words ? stopped : 0;
+    return again == stopped && named == stopped && asked == stopped && closed == stopped && has_words ? stopped : 0;
 }
 
 void try_full(void)

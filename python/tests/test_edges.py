@@ -48,8 +48,9 @@ def test_numbers_and_words_that_are_longer_than_a_line(plain: Store) -> None:
         plain.query("a", cast(Kind, "c" * 5000))
     with pytest.raises(LineTooLongError):
         plain.append("n" * 5000, 1, 1)
-    with pytest.raises(RowsRefusedError):
-        plain.append_many("n" * 5000, [(1, 1)])
+    for length in (33, 240, 300, 990, 5000):
+        with pytest.raises(RowsRefusedError, match="NAME" if length < 256 else "LINE"):
+            plain.append_many("n" * length, [(1, 1)])
     refused: list[object] = []
     rows = [(1, 1), (2, HUGE), (3, 3), (4, 10**6000), (HUGE, 5), (6, 6)]
     assert plain.append_many("a", rows, refused=lambda row, error: refused.append(row)) == 3

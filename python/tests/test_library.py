@@ -239,7 +239,8 @@ def test_rows_that_are_interrupted_at_each_step(by_library: Path) -> None:
 @pytest.mark.filterwarnings("ignore::summarystore.errors.ReopenedWarning")
 @pytest.mark.parametrize("lines, heads", [
     (["append a {} 7"], ["ok"]), (["append c {} 7", "append a {} 7"], ["refused", "ok"]),
-    (["landmark b open {}", "landmark b close {}"], ["ok", "ok"]), (["windows a"], ["windows"]),
+    (["landmark b open {}", "append b {} 7", "landmark b close {}"], ["ok", "ok", "ok"]),
+    (["windows a"], ["windows"]),
     (["cursor open a", "cursor next 2", "cursor next 2", "cursor close"],
      ["cursor", "rows", "rows", "closed"])])
 def test_lines_that_are_interrupted_at_each_step(by_library: Path, lines: list[str], heads: list[str]

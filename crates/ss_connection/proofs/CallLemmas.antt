@@ -1,20 +1,22 @@
 -- What calls of a connection answer.
-use Rattle.ss_connection.specs.Calls.{Called, stop_of}
+use Rattle.ss_connection.specs.Calls.{Called, OnStarved, stop_of}
 use Rattle.ss_connection.proofs.HoldsLemmas.{first-none}
-use Rattle.ss_connection.specs.Holds.{ConnectionState, IsGoing, IsUsable}
-use Rattle.ss_connection.specs.Opens.{OpensHeld}
+use Rattle.ss_connection.specs.Holds.{ConnectionState, IsGoing, IsPiece, IsUsable}
+use Rattle.ss_connection.specs.declared.text.TheConstants.{MOST_SAID}
+use Rattle.ss_connection.specs.Opens.{OpensHeld, store_of}
 use Rattle.ss_program.specs.declared.status.Status.{Status}
 use Rattle.ss_outside.specs.Verdict.{no_memory}
 use Rattle.ss_store.specs.Applied.{OpensStore}
+use Rattle.ss_store.specs.Causes.{OpensAs}
 use Rattle.ss_store.specs.Errors.{verdict_of_opening}
 use Rattle.ss_store.specs.declared.error.OpenError.TheVariants as opening
-use Rattle.ss_program.proofs.Common.{[], Bool, IsDiskStop, arith, common_steps, append-nil, at_start, of_content, reads-none, shown-sealed, IsSealed, IsTrue, KnowsNow, OpenError, Stands}
+use Rattle.ss_program.proofs.Common.{[], ℕ, List, Bool, IsDiskStop, arith, common_steps, append-nil, at_start, of_content, reads-none, shown-sealed, IsSealed, IsTrue, KnowsNow, OpenError, Stands}
 use Rattle.ss_program.proofs.Common.{◌≡◌, None, Some, Ok, Err, IfErr, OnOk, Result, refl, sym, DiskView, Told, Step, IsServing, IsApplyStop}
-use Rattle.ss_program.proofs.Common.{disk_verdict, ended, IsOpen, StoreState, on_ok_weaker}
+use Rattle.ss_program.proofs.Common.{disk_verdict, ended, IsOpen, StoreState, length, on_ok_weaker, ◌≤◌}
 
 -- one that has ended answers why
-pub Called-over : {T : Type 0} {was : ConnectionState} {untouched : Type 0} {disk : DiskView} {R : Told → Told → Type 0} (status : Status) →
-    was.ended ≡ Some status → untouched → IsUsable disk was → Called {T = T} was was untouched (Err status) disk disk R
+pub Called-over : {T : Type 0} {stops : Bool → Status → Type 0} {was : ConnectionState} {untouched : Type 0} {disk : DiskView} {R : Told → Told → Type 0} (status : Status) →
+    was.ended ≡ Some status → untouched → IsUsable disk was → Called {T = T} stops was was untouched (Err status) disk disk R
 Called-over status is none usable = record {
   over = rw is (refl, none);
   goes = λ going. cc;
@@ -29,9 +31,9 @@ usable-after disk is (Ok value) ends goes going = goes
 usable-after disk is (Err status) ends goes going = cc
 
 -- and one that goes on does its work
-pub Called-made : {T : Type 0} {was is : ConnectionState} {untouched : Type 0} {old new : DiskView} {R : Told → Told → Type 0} (result : Result T Status) →
-    was.ended ≡ None → Step (disk_verdict (ended result)) old new R → IfErr result (IsApplyStop old.tells) → is.ended ≡ stop_of result →
-    OnOk result (IsGoing new is) → Called was is untouched result old new R
+pub Called-made : {T : Type 0} {stops : Bool → Status → Type 0} {was is : ConnectionState} {untouched : Type 0} {old new : DiskView} {R : Told → Told → Type 0} (result : Result T Status) →
+    was.ended ≡ None → Step (disk_verdict (ended result)) old new R → IfErr result (stops old.tells) → is.ended ≡ stop_of result →
+    OnOk result (IsGoing new is) → Called stops was is untouched result old new R
 Called-made {is = is} {new = new} result going step cause ends goes = record {
   over = rw going tt;
   goes = λ _. step;
@@ -50,6 +52,10 @@ opening-same T S (opening.BadStream id) = refl
 opening-same T S opening.OutOfMemory = refl
 opening-same T S (opening.Changed slot) = refl
 
+-- and so is what it says of the content
+opening-why : (content : List ℕ) (error : OpenError) → OpensAs content (Err error) → OpensAs content (store_of (Err error))
+opening-why content error why = why
+
 module _ {old new : Told} where
   -- a store was opened, and nothing is staged
   pub Opens-held : (store : StoreState) (connection : ConnectionState) → connection.store ≡ store → IsSealed store.records.journal →
@@ -64,7 +70,8 @@ module _ {old new : Told} where
           durable = turns.durable none;
         });
     any_moment = λ none history stands. (opens.history history).any_moment none stands;
-    refused = tt;
+    opens = rw is opens.opens;
+    judged = opens.judged;
     unwritten = tt;
   }
 
@@ -73,7 +80,8 @@ module _ {old new : Told} where
   Opens-unheld error opens = record {
     holds = λ none history stands. tt;
     any_moment = λ none history stands. (opens.history history).any_moment none stands;
-    refused = opens.opens;
+    opens = opening-why old.content error opens.opens;
+    judged = opens.judged;
     unwritten = rw (sym (opening-same StoreState ConnectionState error)) opens.unwritten;
   }
 
@@ -85,7 +93,8 @@ Opens-starved {disk = disk} knows = record {
   told = λ told. record {
     holds = λ none history stands. tt;
     any_moment = λ none history stands. at_start disk.told (Stands history) (knows told) (of_content disk.told (Stands history) none stands);
-    refused = tt;
+    opens = tt;
+    judged = λ none. reads-none disk.told;
     unwritten = reads-none disk.told;
   };
 }
@@ -94,11 +103,20 @@ Opens-starved {disk = disk} knows = record {
 pub disk-apply : {T : Type 0} (tells : Bool) (result : Result T Status) → IfErr result (IsDiskStop tells) → IfErr result (IsApplyStop tells)
 disk-apply tells result stop = grind (arith, common_steps)
 
+-- a call that reads doesn't want memory
+pub unstarved : {T : Type 0} (P : Type 0) (tells : Bool) (result : Result T Status) → IfErr result (IsDiskStop tells) → OnStarved result P
+unstarved P tells (Ok value) stop = tt
+unstarved P tells (Err status) stop = λ is. absurd (rw is at stop)
+
 -- where no rows are left, the store can be called and that is all
-pub goes-on : {T : Type 0} (disk : DiskView) (is : ConnectionState) (result : Result T Status) → is.rows ≡ None → OnOk result (IsServing disk is.store) →
-    OnOk result (IsGoing disk is)
-goes-on disk is result none serves =
-    on_ok_weaker result (λ (serving : IsServing disk is.store). record { serves = serving; rows = rw none tt }) serves
+pub goes-on : {T : Type 0} (disk : DiskView) (is : ConnectionState) (result : Result T Status) → is.rows ≡ None → length is.said ≤ MOST_SAID →
+    OnOk result (IsServing disk is.store) → OnOk result (IsGoing disk is)
+goes-on disk is result none fits serves =
+    on_ok_weaker result (λ (serving : IsServing disk is.store). record {
+      serves = serving;
+      rows = rw none tt;
+      piece = record { fits = fits; full = rw none tt };
+    }) serves
 
 pub opens-serve : {T : Type 0} (disk : DiskView) (store : StoreState) (result : Result T Status) → OnOk result (IsOpen disk store) →
     OnOk result (IsServing disk store)

@@ -1,12 +1,14 @@
 -- What a connection holds, from call to call.
-use Rattle.ss_connection.specs.Calls.{Adds, Brings, SealsHeld, StagesHeld}
+use Rattle.ss_connection.specs.Calls.{Adds, AsksHeld, Brings, OnStarved, SealsHeld, StagesHeld}
 use Rattle.ss_connection.specs.Holds.{Holds}
+use Rattle.ss_journal.specs.Kept.{shown}
 use Rattle.ss_program.specs.declared.status.Status.{Status}
-use Rattle.ss_program.proofs.Common.{◌≡◌, ◌⊎◌, ⊎_elim, ◌+◌, ◌++◌, [], ℕ, List, None, Ok, Err, OnOk, Result, ap, append_assoc, append-nil, arith}
+use Rattle.std.proofs.lemmas.Result.{IfOk-weaker}
+use Rattle.ss_program.proofs.Common.{◌≡◌, ◌∙◌, ◌⊎◌, ⊎_elim, ◌+◌, ◌++◌, [], ℕ, List, None, Ok, Err, OnOk, Result, ap, append_assoc, append-nil, arith}
 use Rattle.ss_program.proofs.Common.{Brought, Happened, History, IsShort, KnowsNow, LeavesOnly, NothingPending, RecordsState, SealsHistory, StagesBrought, Stands}
 use Rattle.ss_program.proofs.Common.{StandsAround, StandsForFirst, StandsShort, Told, TurnsHistory, history_after, joined, length, length-append}
 use Rattle.ss_program.proofs.Common.{now, on_ok_weaker, shown_by, sym, take, take-append-add, take-append-le, take_all, the_event, weaker, Reply}
-use Rattle.ss_program.proofs.Common.{OnlyReads, of_content, read_leaves, nothing_pending-same}
+use Rattle.ss_program.proofs.Common.{IsOneReply, OnlyReads, ReadsAnswer, of_content, read_leaves, nothing_pending-same}
 
 module _ (history : History) (events more : List Happened) (image : List ℕ) where
   -- an image for some first of the events is one for some first of more
@@ -85,8 +87,9 @@ Brings-sealed {history = history} {staged = staged} {more = more} {is = is} {new
 
 -- what is brought is staged behind what a connection holds
 pub Stages-held : {brought : History → Brought} {was is : RecordsState} {old new : Told} (result : Result Reply Status) → KnowsNow new →
-    StagesBrought brought was is result old new → StagesHeld brought was is result old new
-Stages-held {brought = brought} result knows stages = record {
+    ((P : Type 0) → OnStarved result P) → StagesBrought brought was is result old new → StagesHeld brought was is result old new
+Stages-held {brought = brought} result knows unstarved stages = record {
+  starves = λ history staged held. unstarved _;
   each = λ history staged held.
       let here = brought (history ++ staged) in
       let more = the_event here.event in (
@@ -155,4 +158,16 @@ Adds-read {history = history} {staged = staged} {was = was} {is = is} {old = old
   }) same;
   any_moment = rw append-nil (weaker old new old.may_leave (StandsForFirst history staged)
       (λ image left. of_content old (StandsForFirst history staged) held.durable held.within image left) (read_leaves old new knows reads));
+}
+
+-- so does a question
+pub Asks-held : {brought : History → Brought} {was is : RecordsState} {old new : Told} (result : Result Reply Status) → KnowsNow old →
+    OnOk result (is.journal ≡ was.journal) → ReadsAnswer (IsOneReply was brought) result old new → AsksHeld brought was is result old new
+Asks-held {was = was} {is = is} {old = old} {new = new} result knows same asks = record {
+  each = λ history staged held. (
+    Adds-read result knows held (on_ok_weaker result (λ (journal : is.journal ≡ was.journal).
+        ap (λ (bytes : List ℕ). shown_by is bytes) asks.reads.same.content ∙ ap (λ j. shown j old.content) journal) same) asks.reads,
+    IfOk-weaker result _ _ (λ reply answers. answers (history ++ staged) held.shown) asks.answer,
+  );
+  reads = asks.reads;
 }

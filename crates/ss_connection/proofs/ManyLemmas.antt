@@ -2,13 +2,14 @@
 use Rattle.std.proofs.lemmas.Bool.{cases_Bool}
 use Rattle.std.proofs.lemmas.List.{take_more}
 use Rattle.std.proofs.lemmas.Option.{slice_get-get_or}
-use Rattle.std.specs.Prelude.{slice_get}
+use Rattle.std.specs.Prelude.{Bool, slice_get}
 use Rattle.std.proofs.Math.ListN.{get_or}
+use Rattle.ss_connection.proofs.CallLemmas.{unstarved}
 use Rattle.ss_connection.proofs.EventLemmas.{event-in-time, event-refused, in-time-tested}
 use Rattle.ss_connection.proofs.HoldsLemmas.{first-more}
-use Rattle.ss_connection.specs.Calls.{Adds, OfHeld, SealsHeld}
+use Rattle.ss_connection.specs.Calls.{Adds, OfHeld, OnStarved, SealsHeld, Starves}
 use Rattle.ss_connection.specs.Holds.{Holds}
-use Rattle.ss_connection.specs.Many.{AppliesMany, AreAccepted, StagesMany, TakesFirst, after_first, values_at}
+use Rattle.ss_connection.specs.Many.{AppliesMany, AreAccepted, StagesMany, StarvesAmong, TakesFirst, after_first, values_at}
 use Rattle.ss_connection.specs.Typed.{event_brings, is_in_time}
 use Rattle.ss_connection.specs.declared.connection.many.Taken.{Taken}
 use Rattle.ss_program.proofs.AnswerLemmas.{brings-accepted, brings-refused}
@@ -17,8 +18,9 @@ use Rattle.ss_program.proofs.Common.{arith, at_start, drop, drop-cons, drop_all,
 use Rattle.ss_program.proofs.Common.{Ack, Brought, Event, Happened, History, KnowsNow, LeavesOnly, RecordsState, Refusal, Refused, Reply, StandsForFirst, Told, Value}
 use Rattle.ss_program.proofs.Common.{ack_of, added, command_brings, event_name, refused, refuses, state, the_event}
 use Rattle.ss_program.specs.declared.status.Status.{Status}
+use Rattle.ss_program.specs.Status.{IsDiskStop}
 use Rattle.ss_report.specs.declared.reply.Reply.TheVariants.{Done}
-use Rattle.ss_catalog.specs.declared.refusal.Refusal.TheVariants.{Syntax}
+use Rattle.ss_catalog.specs.declared.refusal.Refusal.TheVariants.{Number}
 use Rattle.ss_command.specs.declared.command.Command.TheVariants.{Do}
 use Rattle.std.proofs.Common.{false}
 
@@ -61,7 +63,7 @@ by-refusal history event None same is =
 pub brings-either : (history : History) (event : Event) → ((r : Refusal) × (event_brings history event ≡ refused r)) ⊎ Accepts history event
 brings-either history event = ⊎_elim
     (λ yes. by-refusal history event (refuses (state history) event) (event-in-time history event (in-time-tested event yes)) refl)
-    (λ no. inl (Syntax, event-refused history event no)) (cases_Bool (is_in_time event))
+    (λ no. inl (Number, event-refused history event no)) (cases_Bool (is_in_time event))
 
 -- so it is where its reply is known
 pub done-accepted : (history : History) (event : Event) (ack : Ack) → (event_brings history event).replies ≡ Done ack ∷ [] →
@@ -97,6 +99,7 @@ pub record HasStaged (history : History) (staged : List Happened) (name : List �
     (last : Option Ack) (old new : Told) : Type 0 where
   pub holds : Holds history (staged ++ map added (take count events)) is new
   pub accepted : AreAccepted (history ++ staged) (take count events)
+  pub first : count ≡ 0 → last ≡ None
   pub last_is : 0 < count → last ≡ Some (ack_of name (state (after_first (history ++ staged) events count)))
   pub any_moment : LeavesOnly old new (StandsForFirst history (staged ++ map added events))
 
@@ -104,13 +107,14 @@ pub record StagesSome (name : List ℕ) (events : List Event) (was is : RecordsS
   pub each : OfHeld was old (λ history staged. HasStaged history staged name events is taken.count taken.last old new)
 
 -- before the first
-pub HasStaged-none : {history : History} {staged : List Happened} {name : List ℕ} {events : List Event} {was : RecordsState} {last : Option Ack} {old : Told} →
-    KnowsNow old → Holds history staged was old → HasStaged history staged name events was 0 last old old
+pub HasStaged-none : {history : History} {staged : List Happened} {name : List ℕ} {events : List Event} {was : RecordsState} {old : Told} →
+    KnowsNow old → Holds history staged was old → HasStaged history staged name events was 0 None old old
 HasStaged-none {history = history} {staged = staged} {events = events} {old = old} knows held =
     let P = StandsForFirst history (staged ++ map added events) in
     record {
       holds = rw append-nil held;
       accepted = tt;
+      first = λ none. refl;
       last_is = λ some. absurd (omega (arith, some));
       any_moment = at_start old P knows
           (of_content old P held.durable (first-more history staged (map added events) old.content held.within));
@@ -122,6 +126,9 @@ replied reply = Ok reply
 
 abbrev pub stopped : Status → Result Reply Status
 stopped status = Err status
+
+abbrev pub halted : Status → Result Taken Status
+halted status = Err status
 
 -- all events are some first of them and the rest
 pub front-rest : (staged : List Happened) (events : List Event) (count : ℕ) →
@@ -186,6 +193,7 @@ module _ {history : History} {staged : List Happened} {name : List ℕ} {events 
         holds = rw shown adds.holds;
         accepted = rw (next-front events count event inside at)
             (accepted-push (history ++ staged) (take count events) event before.accepted (rw from_same done.0));
+        first = λ none. absurd (omega (arith, none));
         last_is = λ some. ap (λ (a : Ack). Some a) (done.1 ∙ ap (λ n. ack_of n (state (from ++ added event ∷ []))) named
             ∙ ap (λ (h : History). ack_of name (state h)) (sym same));
         any_moment = goes-all (replied (Done ack)) (added event ∷ []) (inr refl) adds;
@@ -210,6 +218,7 @@ module _ {history : History} {staged : List Happened} {name : List ℕ} {events 
           few = omega (arith, counts, inside);
           accepted = rw counts before.accepted;
           next = rw (counts, is_refused, next-behind events count event inside at, from_same) no;
+          first = λ none. lasts ∙ before.first (sym counts ∙ none);
           last = λ some. lasts ∙ rw counts (before.last_is (rw counts at some));
         },
         rw counts held,
@@ -226,6 +235,23 @@ module _ {history : History} {staged : List Happened} {name : List ℕ} {events 
       (⊎_elim (λ no. inl (ap (λ (b : Brought). the_event b.event) no.1)) (λ yes. inr (ap (λ (e : Option Event). the_event e) yes.0))
       (brings-either from event)) adds
 
+  -- memory ran out at it
+  pub StagesMany-starved : (status : Status) → (let from = history ++ (staged ++ map added (take count events)) in
+      OnStarved (stopped status) (Starves (event_brings from event) from is new)) →
+      OnStarved (halted status) (StarvesAmong (history ++ staged) events is new)
+  StagesMany-starved status starves = λ memory.
+      let xs = map added (take count events) in
+      let from_same : (history ++ staged) ++ xs ≡ history ++ (staged ++ xs) = append_assoc history staged xs in
+      let found : slice_get events count ≡ Some event = slice_get-get_or events count event inside ∙ ap (λ e. Some e) at in
+      let starved = starves memory in
+      record {
+        taken = count;
+        inside = inside;
+        accepted = before.accepted;
+        wants = rw (found, from_same) starved.wants;
+        holds = rw from_same starved.holds;
+      }
+
 -- all were accepted
 pub TakesFirst-all : {history : History} {staged : List Happened} {name : List ℕ} {events : List Event} {is : RecordsState} {old new : Told} (taken : Taken) →
     taken.count ≡ length events → taken.refusal ≡ None → HasStaged history staged name events is taken.count taken.last old new →
@@ -234,6 +260,7 @@ TakesFirst-all {events = events} taken all none staged = record {
   few = omega (arith, all);
   accepted = staged.accepted;
   next = rw (drop_all taken.count events (omega (arith, all))) none;
+  first = staged.first;
   last = staged.last_is;
 }
 
@@ -253,15 +280,17 @@ module _ {name : List ℕ} {events : List Event} {was mid is : RecordsState} {ol
   pub Applies-sealed : StagesMany name events was mid (Ok taken) old then → SealsHeld mid is (Ok tt) then new →
       AppliesMany name events was is (Ok taken) old new
   Applies-sealed stages seals = record {
+    starves = λ history staged held. tt;
     takes = stages.takes;
     holds = λ history staged held. (seals.each history (staged ++ map added (take taken.count events)) (stages.holds history staged held)).holds;
     any_moment = λ history staged held. sealed-all events taken history staged (stages.any_moment history staged held)
         (seals.each history (staged ++ map added (take taken.count events)) (stages.holds history staged held)).any_moment;
   }
 
-  pub Applies-stopped : (status : Status) → StagesMany name events was mid (Ok taken) old then → SealsHeld mid is (Err status) then new →
+  pub Applies-stopped : (tells : Bool) (status : Status) → IsDiskStop tells status → StagesMany name events was mid (Ok taken) old then → SealsHeld mid is (Err status) then new →
       AppliesMany name events was is (Err status) old new
-  Applies-stopped status stages seals = record {
+  Applies-stopped tells status stop stages seals = record {
+    starves = λ history staged held. unstarved _ tells (halted status) stop;
     takes = λ history staged held. tt;
     holds = λ history staged held. tt;
     any_moment = λ history staged held. sealed-all events taken history staged (stages.any_moment history staged held)

@@ -1,11 +1,11 @@
 -- Rows that are said, as many at a time as there is room for.
-use Rattle.std.specs.Prelude.{IfOk, IfSome}
+use Rattle.std.specs.Prelude.{Bool, IfErr, IfOk, IfSome}
 use Rattle.std.proofs.lemmas.Result.{IfOk-weaker}
 use Rattle.ss_connection.proofs.HoldsLemmas.{Adds-read, stands-open}
 use Rattle.ss_connection.proofs.SaysLemmas.{Says-read}
 use Rattle.ss_connection.specs.Calls.{SaysFurther, SaysOpen}
-use Rattle.ss_connection.specs.Holds.{CanBeTaken, text_left}
-use Rattle.ss_connection.specs.Showing.{Fills}
+use Rattle.ss_connection.specs.Holds.{CanBeTaken, IsPiece, text_left}
+use Rattle.ss_connection.specs.Showing.{Fills, IsFilled}
 use Rattle.ss_journal.specs.Kept.{IsSealed}
 use Rattle.ss_parts.specs.declared.parts.StreamParts.{StreamParts}
 use Rattle.ss_program.proofs.Common.{◌≡◌, ◌∙◌, ◌++◌, ◌∷◌, [], ℕ, List, None, Some, Ok, Err, OnOk, Option, Result, ap, append_assoc, flat_map, on_ok_weaker, reads-joined, refl}
@@ -13,6 +13,7 @@ use Rattle.ss_program.proofs.Common.{reads-none, shown-sealed, sym, Command, Dis
 use Rattle.ss_program.proofs.Common.{Stands, StoreState, Told, command_brings, reply_line, shown_by, text_brought}
 use Rattle.ss_program.proofs.AnswerLemmas.{rows-event}
 use Rattle.ss_program.specs.Rows.{AreBrought, RowsStand}
+use Rattle.ss_program.specs.Status.{IsDiskStop}
 use Rattle.ss_program.specs.declared.rows.Rows.{Rows}
 use Rattle.ss_program.specs.declared.status.Status.{Status}
 
@@ -34,11 +35,11 @@ shows-opened disk store result opens =
 
 -- A command has begun to be shown: its head is said, and then rows.
 pub Says-begun : {was is : StoreState} {after : List ℕ} {old mid new : Told} (command : Command) (head : Reply) (rows : Rows)
-    (result : Result (Option Rows) Status) → HasRows command → KnowsNow old → is.streams ≡ was.streams →
+    (tells : Bool) (result : Result (Option Rows) Status) → IfErr result (IsDiskStop tells) → HasRows command → KnowsNow old → is.streams ≡ was.streams →
     OnOk result (shown_by is.records new.content ≡ new.content) → ReadsAnswer (AreBrought command was.streams) (Ok (head, rows)) old mid →
     Fills was.streams rows (reply_line head) after result mid new → SaysOpen (λ history. command_brings history command) was is after result old new
-Says-begun {was = was} {is = is} {after = after} {old = old} {mid = mid} {new = new} command head rows result has knows streams same begins fills =
-    Says-read result knows (λ history. rows-event history command has) same (reads-joined old mid new begins.reads fills.reads)
+Says-begun {was = was} {is = is} {after = after} {old = old} {mid = mid} {new = new} command head rows tells result stop has knows streams same begins fills =
+    Says-read tells result stop knows (λ history. rows-event history command has) same (reads-joined old mid new begins.reads fills.reads)
     (λ history held.
     let stands = stands-open held in
     let brought : text_brought (command_brings history command) ≡ reply_line head ++ text_left (Some rows) was.streams history =
@@ -59,6 +60,7 @@ Says-further {was = was} {is = is} {after = after} {old = old} {new = new} rows 
         IfOk-weaker result _ _ (λ left (is_left : text_left (Some rows) was.streams (history ++ staged) ≡ after ++ text_left left was.streams (history ++ staged)).
             rw streams is_left) (fills.says (history ++ staged) stands),
       );
+  reads = fills.reads;
 }
 
 -- no row is left to be said
@@ -68,11 +70,16 @@ Says-none {was = was} {is = is} {disk = disk} knows same = record {
       let result : Result (Option Rows) Status = Ok None in
       let none : Option Rows = None in
       (rw same (Adds-read result knows held refl (reads-none disk)), refl);
+  reads = reads-none disk;
 }
 
 -- the rows that are left can be taken
-pub can-be-taken : (disk : DiskView) (store : StoreState) (parts : List StreamParts) (result : Result (Option Rows) Status) → store.streams ≡ parts →
-    OnOk result (IsOpen disk store) → IfOk result (λ left. IfSome left (RowsStand parts)) → IfOk result (λ left. IfSome left (CanBeTaken store))
-can-be-taken disk store parts (Ok None) streams opens stand = tt
-can-be-taken disk store parts (Ok (Some rows)) streams opens stand = record { stand = rw streams stand; sealed = opens.sealed }
-can-be-taken disk store parts (Err status) streams opens stand = tt
+pub can-be-taken : (disk : DiskView) (store : StoreState) (parts : List StreamParts) (said : List ℕ) (result : Result (Option Rows) Status) →
+    store.streams ≡ parts → OnOk result (IsOpen disk store) → IfOk result (IsFilled parts said) → IfOk result (λ left. IfSome left (CanBeTaken store))
+can-be-taken disk store parts said (Ok None) streams opens filled = tt
+can-be-taken disk store parts said (Ok (Some rows)) streams opens filled = record { stand = rw streams filled.stand; sealed = opens.sealed }
+can-be-taken disk store parts said (Err status) streams opens filled = tt
+
+pub filled-piece : (parts : List StreamParts) (said : List ℕ) (result : Result (Option Rows) Status) → IfOk result (IsFilled parts said) →
+    IfOk result (IsPiece said)
+filled-piece parts said result filled = IfOk-weaker result _ _ (λ left is. is.piece) filled

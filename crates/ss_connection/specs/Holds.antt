@@ -1,5 +1,6 @@
 -- What a connection holds: a history, and events that are staged behind it.
-use Rattle.std.specs.Prelude.{◌≡◌, ◌++◌, [], ℕ, List, Option, None, Some, IfSome, flat_map}
+use Rattle.std.specs.Prelude.{◌≡◌, ◌<◌, ◌≤◌, ◌+◌, ◌++◌, [], ℕ, List, Option, None, Some, IfSome, flat_map, length}
+use Rattle.ss_connection.specs.declared.text.TheConstants.{LONGEST_REPLY, MOST_SAID}
 use Rattle.ss_journal.specs.Kept.{IsSealed}
 use Rattle.ss_model.specs.History.{Happened}
 use Rattle.ss_model.specs.State.{state}
@@ -29,10 +30,16 @@ pub record CanBeTaken (store : StoreState) (rows : Rows) : Type 0 where
   pub stand : RowsStand store.streams rows
   pub sealed : IsSealed store.records.journal
 
--- The store can be called, and so can the rows be taken.
+-- What was said fits, and rows are left only where there isn't room for one more.
+pub record IsPiece (said : List ℕ) (left : Option Rows) : Type 0 where
+  pub fits : length said ≤ MOST_SAID
+  pub full : IfSome left (λ rows. MOST_SAID < length said + LONGEST_REPLY)
+
+-- The store can be called, and so can the rows be taken that are left behind what was said.
 pub record IsGoing (disk : DiskView) (connection : ConnectionState) : Type 0 where
   pub serves : IsServing disk connection.store
   pub rows : IfSome connection.rows (CanBeTaken connection.store)
+  pub piece : IsPiece connection.said connection.rows
 
 -- so it is unless the connection has ended
 abbrev pub IsUsable : DiskView → ConnectionState → Type 0

@@ -1,9 +1,12 @@
 -- Calls of one connection, one after another.
-use Rattle.std.specs.Prelude.{◌≡◌, ◌++◌, ◌∷◌, [], ℕ, List, All, Option, None, Some, Ok, IfSome, flat_map, length}
+use Rattle.std.specs.Prelude.{◌≡◌, ◌++◌, ◌∷◌, [], ℕ, List, All, Option, None, Some, Ok, IfSome, flat_map, length, ⊤}
 use Rattle.std.specs.List.{position_or_len}
+use Rattle.ss_catalog.specs.declared.event.Event.{Event}
+use Rattle.ss_command.specs.Grammar.{meaning}
 use Rattle.ss_command.specs.Lines.{is_line_end}
 use Rattle.ss_command.specs.declared.TheConstants.{LINE_END}
-use Rattle.ss_connection.specs.Calls.{SaysFurther, SaysHeld, bare, without_end}
+use Rattle.ss_command.specs.declared.command.Command.TheVariants.{Do}
+use Rattle.ss_connection.specs.Calls.{SaysFurther, SaysOpen, bare, without_end}
 use Rattle.ss_outside.specs.Disk.{DiskView, Told}
 use Rattle.ss_outside.specs.Step.{Step}
 use Rattle.ss_outside.specs.Verdict.{fine}
@@ -22,11 +25,11 @@ pub record Made (D : Type 0) : Type 0 where
   pub old : D
   pub new : D
 
--- what `call` and `next` ensure of it, where these rows were left before; a line is called where none are
+-- what `call` and `next` ensure of it where nothing is staged, and these rows were left before; a line is called where none are
 abbrev pub DidCall : {D : Type 0} → Option (List ℕ) → Made D → Option Rows → Told → Told → Type 0
 DidCall None made before old new = SaysFurther before made.was made.is made.said (Ok made.left) old new
 DidCall (Some line) made before old new =
-    (before ≡ None) × SaysHeld (λ history. brings history (bare line)) made.was made.is made.said (Ok made.left) old new
+    (before ≡ None) × SaysOpen (λ history. brings history (bare line)) made.was made.is made.said (Ok made.left) old new
 
 -- Each call finds the store and the disk as the one before left them.
 abbrev pub AreInTurn : {D : Type 0} → (D → DiskView) → List (Made D) → Option Rows → StoreState → D → Option Rows → StoreState → D → Type 0
@@ -51,3 +54,10 @@ AreLines {D} calls = All (λ (made : Made D). IfSome made.line (λ line. positio
 -- the input that has these lines, each with a line end
 abbrev pub input_of : {D : Type 0} → List (Made D) → List ℕ
 input_of {D} calls = flat_map (λ (made : Made D). ended_line made.line) calls
+
+-- each of these lines means the event at its place
+abbrev pub AreMeant : List (List ℕ) → List Event → Type 0
+AreMeant [] [] = ⊤
+AreMeant [] (event ∷ events) = ⊥
+AreMeant (line ∷ ls) [] = ⊥
+AreMeant (line ∷ ls) (event ∷ events) = (meaning line ≡ Ok (Some (Do event))) × AreMeant ls events

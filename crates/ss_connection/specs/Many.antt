@@ -1,9 +1,9 @@
 -- Values that are appended together.
-use Rattle.std.specs.Prelude.{◌≡◌, ◌++◌, ◌∷◌, ◌<◌, ◌≤◌, [], ℕ, ℤ, List, Option, None, Some, Result, IfOk, length, map, slice_get, take, drop, ⊤}
+use Rattle.std.specs.Prelude.{◌≡◌, ◌++◌, ◌∷◌, ◌<◌, ◌≤◌, [], ℕ, ℤ, List, Option, None, Some, Result, IfOk, IfSome, IsSome, length, map, slice_get, take, drop, ⊤}
 use Rattle.ss_catalog.specs.declared.event.Event.{Event}
 use Rattle.ss_catalog.specs.declared.event.Event.TheVariants.{Value}
 use Rattle.ss_catalog.specs.declared.refusal.Refusal.{Refusal}
-use Rattle.ss_connection.specs.Calls.{OfHeld}
+use Rattle.ss_connection.specs.Calls.{OfHeld, OnStarved}
 use Rattle.ss_connection.specs.Holds.{Holds}
 use Rattle.ss_connection.specs.Typed.{event_brings}
 use Rattle.ss_connection.specs.declared.connection.many.Taken.{Taken}
@@ -48,7 +48,16 @@ pub record TakesFirst (history : History) (name : List ℕ) (events : List Event
   pub few : taken.count ≤ length events
   pub accepted : AreAccepted history (take taken.count events)
   pub next : IsRefusedNext (after_first history events taken.count) (drop taken.count events) taken.refusal
+  pub first : taken.count ≡ 0 → taken.last ≡ None
   pub last : 0 < taken.count → taken.last ≡ Some (ack_of name (state (after_first history events taken.count)))
+
+-- Memory runs out only at an event that would be accepted: it isn't, and all that was before it is on the disk.
+pub record StarvesAmong (history : History) (events : List Event) (is : RecordsState) (new : Told) : Type 0 where
+  pub taken : ℕ
+  pub inside : taken < length events
+  pub accepted : AreAccepted history (take taken events)
+  pub wants : IfSome (slice_get events taken) (λ event. IsSome (event_brings (after_first history events taken) event).event)
+  pub holds : Holds (after_first history events taken) [] is new
 
 -- Some first of these values are staged behind what is, and a crash meanwhile leaves the history with some first of all.
 pub record StagesMany (name : List ℕ) (events : List Event) (was is : RecordsState) (result : Result Taken Status) (old new : Told) : Type 0 where
@@ -56,6 +65,7 @@ pub record StagesMany (name : List ℕ) (events : List Event) (was is : RecordsS
   pub holds : OfHeld was old (λ history staged. IfOk result (λ taken.
       Holds history (staged ++ map added (take taken.count events)) is new))
   pub any_moment : OfHeld was old (λ history staged. LeavesOnly old new (StandsForFirst history (staged ++ map added events)))
+  pub starves : OfHeld was old (λ history staged. OnStarved result (StarvesAmong (history ++ staged) events is new))
 
 -- Some first of these values come to the disk together, behind what is staged.
 pub record AppliesMany (name : List ℕ) (events : List Event) (was is : RecordsState) (result : Result Taken Status) (old new : Told) : Type 0 where
@@ -63,3 +73,4 @@ pub record AppliesMany (name : List ℕ) (events : List Event) (was is : Records
   pub holds : OfHeld was old (λ history staged. IfOk result (λ taken.
       Holds (history ++ (staged ++ map added (take taken.count events))) [] is new))
   pub any_moment : OfHeld was old (λ history staged. LeavesOnly old new (StandsForFirst history (staged ++ map added events)))
+  pub starves : OfHeld was old (λ history staged. OnStarved result (StarvesAmong (history ++ staged) events is new))

@@ -64,7 +64,8 @@ impl Text {
     /// Adds the line of a reply. It takes no memory.
     pub fn add(&mut self, reply: &Reply)
         requires { length self.old + LONGEST_REPLY ≤ MOST_SAID }
-        ensures { self.new ≡ self.old ++ reply_line reply.now }
+        ensures text { self.new ≡ self.old ++ reply_line reply.now }
+        ensures fits { length self.new ≤ MOST_SAID }
     {
         let mut line = ArrayString::new();
         reply_text(reply, &mut line);
@@ -73,7 +74,8 @@ impl Text {
 
     /// Says a reply in place of what was said before.
     pub fn say(&mut self, reply: &Reply)
-        ensures { self.new ≡ reply_line reply.now }
+        ensures text { self.new ≡ reply_line reply.now }
+        ensures fits { length self.new ≤ MOST_SAID }
     {
         self.clear();
         self.add(reply);

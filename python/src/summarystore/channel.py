@@ -6,8 +6,9 @@ import os
 import threading
 import warnings
 from collections import defaultdict, deque
-from collections.abc import Iterator, Sequence
+from collections.abc import Callable, Iterator, Sequence
 from contextlib import contextmanager, suppress
+from itertools import starmap
 from typing import TypeVar
 
 from . import calls, older
@@ -26,6 +27,27 @@ T = TypeVar("T")
 LOOK_AGAIN = 0.1
 
 
+def without(lock: threading._RLock, work: Callable[[], None]) -> None:
+    """Does something while a lock is free, which is held again afterwards, also where an interrupt comes.
+
+    What is called by one call has no interrupt between it and the note that it was done.
+    """
+    free: list[None] = []
+    held: list[bool] = []
+    interrupted: BaseException | None = None
+    try:
+        free.extend(starmap(lock.release, [()]))
+        work()
+    finally:
+        while free and not held:
+            try:
+                held.extend(starmap(lock.acquire, [()]))
+            except BaseException as error:      # while it was waited for
+                interrupted = error
+    if interrupted is not None:
+        raise interrupted
+
+
 class Channel(Base[Connection]):
     """A store's connection, its sessions, and its cursors."""
 
@@ -35,7 +57,9 @@ class Channel(Base[Connection]):
                  backend: Name | None = None, library: File | None = None) -> None:
         super().__init__(path, backend_of(backend, program, library), program, translator, existing, checked,
                          renew_at)
-        self._changed = threading.Condition()
+        # Held by itself: no interrupt comes between its taking and the `with` that gives it back.
+        self._lock = threading.RLock()
+        self._changed = threading.Condition(self._lock)
         self._mine = threading.local()
         self._let_go: deque[tuple[int, Connection]] = deque()
         self._pumping = False
@@ -59,7 +83,7 @@ class Channel(Base[Connection]):
     def _ready(self) -> None:
         """Before the names are written: the process is up, so the store is locked and they are known."""
         self._must_be_mine()
-        with self._changed:
+        with self._lock:
             self._up()
 
     def _must_be_mine(self) -> None:
@@ -89,7 +113,7 @@ class Channel(Base[Connection]):
             yield held
             return
         self._must_be_mine()    # before the lock, which another thread may have held at a fork
-        with self._changed:
+        with self._lock:
             while (session := self._sessions.take()) is None:
                 self._changed.wait()
         self._mine.session = session
@@ -97,7 +121,7 @@ class Channel(Base[Connection]):
             yield session
         finally:
             self._mine.session = None
-            with self._changed:
+            with self._lock:
                 self._sessions.give(session)
                 self._changed.notify_all()
 
@@ -107,7 +131,7 @@ class Channel(Base[Connection]):
 
     def _submit(self, request: Request, only: Connection | None = None) -> Connection:
         """Sends a request: where a process is named, to that one or its successor, or to none."""
-        with self._changed:
+        with self._lock:
             self._renew()
             if only is not None and only.newest() is not self._connection:
                 request.finish(request.interrupted(only.failure()))
@@ -124,7 +148,7 @@ class Channel(Base[Connection]):
 
     def _wait(self, request: Request) -> None:
         """Waits for the replies. One of those who wait moves the bytes for all."""
-        with self._changed:
+        with self._lock:
             while not request.done:
                 self._pump()
 
@@ -144,11 +168,7 @@ class Channel(Base[Connection]):
         """Does what can be done, after waiting for that. The lock is free meanwhile."""
         connection = self._connection
         assert connection is not None
-        self._changed.release()
-        try:
-            connection.poll()
-        finally:
-            self._changed.acquire()
+        without(self._lock, connection.poll)
         if connection is not self._connection:
             return      # another thread has given it up
         try:
@@ -197,7 +217,7 @@ class Channel(Base[Connection]):
         """Ends the connection in order, after all that is under way. Twice does no harm."""
         if self._owner != os.getpid():
             return
-        with self._changed:
+        with self._lock:
             if self._closed:
                 return
             while self._connection is not None and not self._connection.idle:
@@ -211,7 +231,7 @@ class Channel(Base[Connection]):
     def open_cursor(self, codec: Codec) -> tuple[int, Connection]:
         """A session with a cursor of a stream, and the process that it belongs to."""
         owner = threading.get_ident()
-        with self._changed:
+        with self._lock:
             self._close_let_go()
             connection = self._up()
             while (session := self._sessions.take_cursor(owner)) is None:
@@ -253,7 +273,7 @@ class Channel(Base[Connection]):
                 self.close_cursor(*gone)
 
     def _give_cursor(self, session: int, connection: Connection) -> None:
-        with self._changed:
+        with self._lock:
             if self._connection is connection:
                 self._sessions.give_cursor(session)
             self._changed.notify_all()

@@ -38,7 +38,7 @@ class Text(ctypes.Structure):
 
 
 class Ack(ctypes.Structure):
-    """The numbers of an `ok`. Those of an append begin with 1 at least."""
+    """The numbers of an `ok`."""
 
     _fields_ = [("values", c_uint64), ("windows", c_uint64)]
     values: int

@@ -29,6 +29,8 @@ class Cursors:
     def reply(self, session: int, named: Hashable, line: str, ask: Callable[[str], tuple[str, bytearray]]
               ) -> Reply | None:
         """The reply to a line of a session: None where it is about no cursor."""
+        if "cursor" not in line:
+            return None
         cursor = self._open.get(session)
         if cursor is not None and cursor.line == named:
             return cursor.reply

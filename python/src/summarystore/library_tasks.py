@@ -17,10 +17,11 @@ from .errors import ProtocolError
 from .library import Ack, Handle, Text
 from .library_cursors import Cursors
 from .pipeline import EVENTS, Appends, Commands, Request
-from .wire import LONGEST_LINE, NAME, Readings, Reply, rows_after
+from .wire import LONGEST_LINE, LONGEST_SENT, NAME, Readings, Reply, rows_after
 
 APPEND = re.compile(r"append ([a-zA-Z0-9_.-]{1,32}) ([0-9]{1,19}) (-?[0-9]{1,19})")
 UNFILLED = 2**64 - 1
+"""What stands in a place until the library fills it, and no stream has so many values."""
 
 
 class Task(Protocol):
@@ -116,47 +117,47 @@ class Lines:
 
     def go_on(self, work: Work) -> None:
         """Does the lines that are left."""
-        while self.done < self.request.count:
-            reply = self._found()
+        while (at := self.done) < self.request.count:
+            reply = self._found(at)
             if reply is None:
                 if self.left:
                     return
-                self.request.written = self.done + 1
-                reply = self._reply(self.request.lines[self.done], work)
+                self.request.written = at + 1
+                reply = self._reply(at, self.request.lines[at], work)
             self._replies.append(reply)
             if not work.waits:
-                self.durable = self.done
+                self.durable = at + 1
 
     def tell(self) -> None:
         """Gives the replies."""
         self.request.replies = self._replies[:self.durable]
         self.request.answered = self.durable
 
-    def _found(self) -> Reply | None:
-        """What the library left for the next line, where an interrupt came behind its call."""
-        at, place = self._place
-        if at != self.done:
+    def _found(self, at: int) -> Reply | None:
+        """What the library left for a line, where an interrupt came behind its call."""
+        filled, place = self._place
+        if filled != at:
             return None
         if isinstance(place, Ack):
-            return Reply(f"ok {place.values} {place.windows}") if place.values else None
+            return Reply(f"ok {place.values} {place.windows}") if place.values != UNFILLED else None
         return Reply(place.content.decode("utf-8").rstrip("\n")) if place.at is not None else None
 
-    def _reply(self, line: str, work: Work) -> Reply:
+    def _reply(self, at: int, line: str, work: Work) -> Reply:
         found = APPEND.fullmatch(line)
         if found is not None and int(found[2]) < 2**64 and -2**63 <= int(found[3]) < 2**63:
-            return self._append(found, work)
+            return self._append(at, found, work)
         if line.lstrip().startswith(EVENTS) and not is_too_long(line):
             text = Text()
-            self._place = self.done, text
+            self._place = at, text
             work.call(line, text)
             return Reply(text.content.decode("utf-8").rstrip("\n"))
-        named = self.request, self.done
+        named = self.request, at
         return work.cursors.reply(self.request.session, named, line, work.text) or work.ask(line)
 
-    def _append(self, found: re.Match[str], work: Work) -> Reply:
+    def _append(self, at: int, found: re.Match[str], work: Work) -> Reply:
         """A reading waits for others that come at once, so that they share their way to the disk."""
-        ack = Ack()
-        self._place = self.done, ack
+        ack = Ack(UNFILLED, 0)
+        self._place = at, ack
         work.waits = True
         answer = work.handle.append(found[1].encode("ascii"), int(found[2]), int(found[3]), ack)
         return Reply(work.words(answer) if answer else f"ok {ack.values} {ack.windows}")
@@ -209,7 +210,8 @@ class RowsByLines:
 
     def __init__(self, request: Appends[Any]) -> None:
         self.request = request
-        self._commands = Commands(0, [request.readings.line(at) for at in range(request.count)])
+        lines = [request.readings.line(at)[:LONGEST_SENT] for at in range(request.count)]
+        self._commands = Commands(0, lines)
         self._lines = Lines(self._commands)
 
     @property

@@ -262,7 +262,7 @@ class Store(Channel, Questions):
         """An exception came: what isn't written yet is taken back, and what became of the rows is told
         with it."""
         try:
-            with self._changed:
+            with self._lock:
                 self._call_off(sending.under_way)
             for request in sending.under_way:
                 self._wait(request)
@@ -326,7 +326,7 @@ class Store(Channel, Questions):
     def check(self) -> Soundness:
         """Looks the store over, by the program. It is closed for that, and opened again."""
         find_program(self._program)     # before it is closed
-        with self._changed:
+        with self._lock:
             self._close_let_go()
             while not self._sessions.idle:
                 if self._sessions.holds_any(threading.get_ident()) or self._is_mine():

@@ -1,11 +1,14 @@
 // Events as values.
 ghost use Rattle.std.specs.Prelude.{◌≡◌, IfErr, OnOk};
-ghost use Rattle.ss_connection.specs.Calls.{AppliesHeld, Called, SealsHeld, StagesHeld};
+ghost use Rattle.ss_catalog.specs.Events.{IsInTime};
+ghost use Rattle.ss_command.specs.declared.command.Command.TheVariants.{Do};
+ghost use Rattle.ss_connection.specs.Calls.{AppliesHeld, Called, IsSilent, SealsHeld, StagesHeld};
 ghost use Rattle.ss_connection.specs.Holds.{IsUsable};
 ghost use Rattle.ss_connection.specs.Typed.{event_brings, is_in_time};
 ghost use Rattle.ss_outside.specs.Step.{Step};
 ghost use Rattle.ss_program.specs.Answer.{IsOpen, IsServing};
-ghost use Rattle.ss_program.specs.Status.{IsApplyStop, disk_verdict, ended};
+ghost use Rattle.ss_program.specs.Line.{command_brings};
+ghost use Rattle.ss_program.specs.Status.{IsApplyStop, IsDiskStop, disk_verdict, ended};
 
 use super::{Connection, stop_of};
 use ss_base::LAST_TIME;
@@ -25,6 +28,28 @@ fn is_in_time(event: &Event) -> bool
     }
 }
 
+// Stages an event whose time can be said. Where memory runs out, all that are staged are brought to the disk before the store is of no more
+// use, as the program does.
+fn stage_in_time<D: Disk>(store: &mut Store, event: &Event, disk: &mut D) -> Result<Reply, Status>
+    requires in_time { IsInTime event.now }
+    requires serves { IsServing (D.seen disk.old) store.old }
+    ensures stages { Step (disk_verdict (ended result)) (D.seen disk.old) (D.seen disk.new)
+        (StagesHeld (λ history. command_brings history (Do event.now)) store.old.records store.new.records result) }
+    ensures serves { OnOk result (IsServing (D.seen disk.new) store.new) }
+    ensures status { IfErr result (IsApplyStop (D.seen disk.old).tells) }
+{
+    match stage(store, event, disk) {
+        Ok(reply) => Ok(reply),
+        Err(status) => match status {
+            Status::OutOfMemory => {
+                seal_store(store, disk)?;
+                Err(Status::OutOfMemory)
+            }
+            _ => Err(status),
+        },
+    }
+}
+
 /// Stages an event, whatever its time is.
 pub fn stage_event<D: Disk>(store: &mut Store, event: &Event, disk: &mut D) -> Result<Reply, Status>
     requires { IsServing (D.seen disk.old) store.old }
@@ -34,9 +59,9 @@ pub fn stage_event<D: Disk>(store: &mut Store, event: &Event, disk: &mut D) -> R
     ensures status { IfErr result (IsApplyStop (D.seen disk.old).tells) }
 {
     if is_in_time(event) {
-        stage(store, event, disk)
+        stage_in_time(store, event, disk)
     } else {
-        Ok(Reply::Refused(Refusal::Syntax))
+        Ok(Reply::Refused(Refusal::Number))
     }
 }
 
@@ -45,7 +70,7 @@ pub fn seal_store<D: Disk>(store: &mut Store, disk: &mut D) -> Result<(), Status
     requires { IsServing (D.seen disk.old) store.old }
     ensures seals { Step (disk_verdict (ended result)) (D.seen disk.old) (D.seen disk.new) (SealsHeld store.old.records store.new.records result) }
     ensures open { OnOk result (IsOpen (D.seen disk.new) store.new) }
-    ensures status { IfErr result (IsApplyStop (D.seen disk.old).tells) }
+    ensures status { IfErr result (IsDiskStop (D.seen disk.old).tells) }
 {
     match store.seal(disk) {
         Ok(()) => Ok(()),
@@ -71,8 +96,9 @@ impl Connection {
     /// crash leaves some first of the staged events. Times are whole numbers up to `LAST_TIME`. docs/GUIDE.md has the replies.
     pub fn stage<D: Disk>(&mut self, event: &Event, disk: &mut D) -> Result<Reply, Status>
         requires { IsUsable (D.seen disk.old) self.old }
-        ensures { Called self.old self.new ((self.new ≡ self.old) × (disk.new ≡ disk.old)) result (D.seen disk.old) (D.seen disk.new)
+        ensures called { Called IsApplyStop self.old self.new ((self.new ≡ self.old) × (disk.new ≡ disk.old)) result (D.seen disk.old) (D.seen disk.new)
             (StagesHeld (λ history. event_brings history event.now) self.old.store.records self.new.store.records result) }
+        ensures silent { IsSilent self.old self.new }
     {
         if let Some(status) = self.ended {
             return Err(status);
@@ -86,8 +112,9 @@ impl Connection {
     /// Brings all staged events to the disk together.
     pub fn seal<D: Disk>(&mut self, disk: &mut D) -> Result<(), Status>
         requires { IsUsable (D.seen disk.old) self.old }
-        ensures { Called self.old self.new ((self.new ≡ self.old) × (disk.new ≡ disk.old)) result (D.seen disk.old) (D.seen disk.new)
+        ensures called { Called IsDiskStop self.old self.new ((self.new ≡ self.old) × (disk.new ≡ disk.old)) result (D.seen disk.old) (D.seen disk.new)
             (SealsHeld self.old.store.records self.new.store.records result) }
+        ensures silent { IsSilent self.old self.new }
     {
         if let Some(status) = self.ended {
             return Err(status);
@@ -101,8 +128,9 @@ impl Connection {
     /// Does an event, brings it to the disk with all that are staged, and answers the reply to it.
     pub fn apply<D: Disk>(&mut self, event: &Event, disk: &mut D) -> Result<Reply, Status>
         requires { IsUsable (D.seen disk.old) self.old }
-        ensures { Called self.old self.new ((self.new ≡ self.old) × (disk.new ≡ disk.old)) result (D.seen disk.old) (D.seen disk.new)
+        ensures called { Called IsApplyStop self.old self.new ((self.new ≡ self.old) × (disk.new ≡ disk.old)) result (D.seen disk.old) (D.seen disk.new)
             (AppliesHeld (λ history. event_brings history event.now) self.old.store.records self.new.store.records result) }
+        ensures silent { IsSilent self.old self.new }
     {
         if let Some(status) = self.ended {
             return Err(status);

@@ -5,11 +5,11 @@ ghost use Rattle.ss_command.specs.Grammar.{meaning};
 ghost use Rattle.ss_command.specs.Printed.{IsCommandInTime};
 ghost use Rattle.ss_command.specs.declared.command.Command.TheVariants.{Do};
 ghost use Rattle.ss_connection.specs.Calls.{Called, SaysFurther, SaysHeld, SaysOpen, bare, plain_of, rows_of, stop_of, with_rows};
-ghost use Rattle.ss_connection.specs.Holds.{CanBeTaken, IsUsable};
+ghost use Rattle.ss_connection.specs.Holds.{CanBeTaken, IsPiece, IsUsable};
 ghost use Rattle.ss_outside.specs.Step.{Step};
 ghost use Rattle.ss_program.specs.Answer.{IsOpen, IsServing, question_command};
 ghost use Rattle.ss_program.specs.Line.{brings, command_brings, meaning_brings};
-ghost use Rattle.ss_program.specs.Status.{IsApplyStop, disk_verdict, ended};
+ghost use Rattle.ss_program.specs.Status.{IsApplyStop, IsDiskStop, disk_verdict, ended};
 
 use super::events::{apply_event, seal_store};
 use super::showing::{say_further, say_rows};
@@ -46,6 +46,7 @@ fn say_event<D: Disk>(
     ensures says { Step (disk_verdict (ended result)) (D.seen disk.old) (D.seen disk.new)
         (SaysOpen (λ history. command_brings history (Do event.now)) store.old store.new text.new result) }
     ensures none { IfOk result (λ left. left ≡ None) }
+    ensures piece { IfOk result (IsPiece text.new) }
     ensures open { OnOk result (IsOpen (D.seen disk.new) store.new) }
     ensures status { IfErr result (IsApplyStop (D.seen disk.old).tells) }
 {
@@ -65,8 +66,9 @@ fn say_answer<D: Disk>(
     ensures says { Step (disk_verdict (ended result)) (D.seen disk.old) (D.seen disk.new)
         (SaysOpen (λ history. command_brings history (question_command question.now)) store.old store.new text.new result) }
     ensures none { IfOk result (λ left. left ≡ None) }
+    ensures piece { IfOk result (IsPiece text.new) }
     ensures open { OnOk result (IsOpen (D.seen disk.new) store.new) }
-    ensures status { IfErr result (IsApplyStop (D.seen disk.old).tells) }
+    ensures status { IfErr result (IsDiskStop (D.seen disk.old).tells) }
 {
     let reply = ask(store, question, disk)?;
     text.say(&reply);
@@ -85,6 +87,7 @@ fn do_command<D: Disk>(
     ensures says { Step (disk_verdict (ended result)) (D.seen disk.old) (D.seen disk.new)
         (SaysOpen (λ history. command_brings history command.now) store.old store.new text.new result) }
     ensures stand { IfOk result (λ left. IfSome left (CanBeTaken store.new)) }
+    ensures piece { IfOk result (IsPiece text.new) }
     ensures open { OnOk result (IsOpen (D.seen disk.new) store.new) }
     ensures status { IfErr result (IsApplyStop (D.seen disk.old).tells) }
 {
@@ -112,6 +115,7 @@ fn do_line<D: Disk>(
     ensures says { Step (disk_verdict (ended result)) (D.seen disk.old) (D.seen disk.new)
         (SaysOpen (λ history. meaning_brings history meant.now) store.old store.new text.new result) }
     ensures stand { IfOk result (λ left. IfSome left (CanBeTaken store.new)) }
+    ensures piece { IfOk result (IsPiece text.new) }
     ensures open { OnOk result (IsOpen (D.seen disk.new) store.new) }
     ensures status { IfErr result (IsApplyStop (D.seen disk.old).tells) }
 {
@@ -139,6 +143,7 @@ fn take_line<D: Disk>(
     ensures says { Step (disk_verdict (ended result)) (D.seen disk.old) (D.seen disk.new)
         (SaysHeld (λ history. brings history line.now) store.old store.new text.new result) }
     ensures stand { IfOk result (λ left. IfSome left (CanBeTaken store.new)) }
+    ensures piece { IfOk result (IsPiece text.new) }
     ensures open { OnOk result (IsOpen (D.seen disk.new) store.new) }
     ensures status { IfErr result (IsApplyStop (D.seen disk.old).tells) }
 {
@@ -171,7 +176,7 @@ impl Connection {
     /// comment or an empty line says nothing.
     pub fn call<D: Disk>(&mut self, line: &[u8], disk: &mut D) -> Result<(), Status>
         requires { IsUsable (D.seen disk.old) self.old }
-        ensures { Called self.old self.new ((self.new ≡ self.old) × (disk.new ≡ disk.old)) result (D.seen disk.old) (D.seen disk.new)
+        ensures { Called IsApplyStop self.old self.new ((self.new ≡ self.old) × (disk.new ≡ disk.old)) result (D.seen disk.old) (D.seen disk.new)
             (SaysHeld (λ history. brings history (bare line.now)) self.old.store self.new.store self.new.said (with_rows self.new.rows result)) }
     {
         if let Some(status) = self.ended {
@@ -185,7 +190,7 @@ impl Connection {
     /// Nothing is written.
     pub fn next<D: Disk>(&mut self, disk: &mut D) -> Result<(), Status>
         requires { IsUsable (D.seen disk.old) self.old }
-        ensures { Called self.old self.new ((self.new ≡ self.old) × (disk.new ≡ disk.old)) result (D.seen disk.old) (D.seen disk.new)
+        ensures { Called IsDiskStop self.old self.new ((self.new ≡ self.old) × (disk.new ≡ disk.old)) result (D.seen disk.old) (D.seen disk.new)
             (SaysFurther self.old.rows self.old.store self.new.store self.new.said (with_rows self.new.rows result)) }
     {
         if let Some(status) = self.ended {

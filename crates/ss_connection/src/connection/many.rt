@@ -1,6 +1,6 @@
 // Values that are appended together.
 ghost use Rattle.std.specs.Prelude.{◌≡◌, ◌<◌, length, IfErr, OnOk};
-ghost use Rattle.ss_connection.specs.Calls.{Called};
+ghost use Rattle.ss_connection.specs.Calls.{Called, IsSilent};
 ghost use Rattle.ss_connection.specs.Holds.{IsUsable};
 ghost use Rattle.ss_connection.specs.Many.{AppliesMany, IsEventAt, StagesMany, values_at};
 ghost use Rattle.ss_outside.specs.Step.{Step};
@@ -105,8 +105,9 @@ impl Connection {
         disk: &mut D,
     ) -> Result<Taken, Status>
         requires { IsUsable (D.seen disk.old) self.old }
-        ensures { Called self.old self.new ((self.new ≡ self.old) × (disk.new ≡ disk.old)) result (D.seen disk.old) (D.seen disk.new)
+        ensures called { Called IsApplyStop self.old self.new ((self.new ≡ self.old) × (disk.new ≡ disk.old)) result (D.seen disk.old) (D.seen disk.new)
             (StagesMany name.now (values_at name.now times.now values.now) self.old.store.records self.new.store.records result) }
+        ensures silent { IsSilent self.old self.new }
     {
         if let Some(status) = self.ended {
             return Err(status);
@@ -126,8 +127,9 @@ impl Connection {
         disk: &mut D,
     ) -> Result<Taken, Status>
         requires { IsUsable (D.seen disk.old) self.old }
-        ensures { Called self.old self.new ((self.new ≡ self.old) × (disk.new ≡ disk.old)) result (D.seen disk.old) (D.seen disk.new)
+        ensures called { Called IsApplyStop self.old self.new ((self.new ≡ self.old) × (disk.new ≡ disk.old)) result (D.seen disk.old) (D.seen disk.new)
             (AppliesMany name.now (values_at name.now times.now values.now) self.old.store.records self.new.store.records result) }
+        ensures silent { IsSilent self.old self.new }
     {
         if let Some(status) = self.ended {
             return Err(status);

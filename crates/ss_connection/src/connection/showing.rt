@@ -1,9 +1,10 @@
 // Rows, as many at a time as there is room for.
-ghost use Rattle.std.specs.Prelude.{◌≡◌, [], Some, IfErr, IfOk, IfSome, OnOk};
+ghost use Rattle.std.specs.Prelude.{◌≡◌, ◌≤◌, [], Some, length, IfErr, IfOk, IfSome, OnOk};
 ghost use Rattle.ss_command.specs.Printed.{IsCommandInTime};
 ghost use Rattle.ss_connection.specs.Calls.{SaysFurther, SaysOpen};
-ghost use Rattle.ss_connection.specs.Holds.{CanBeTaken};
-ghost use Rattle.ss_connection.specs.Showing.{Fills};
+ghost use Rattle.ss_connection.specs.Holds.{CanBeTaken, IsPiece};
+ghost use Rattle.ss_connection.specs.declared.text.TheConstants.{MOST_SAID};
+ghost use Rattle.ss_connection.specs.Showing.{Fills, IsFilled};
 ghost use Rattle.ss_outside.specs.Step.{Step};
 ghost use Rattle.ss_program.specs.Answer.{HasRows, IsOpen};
 ghost use Rattle.ss_program.specs.Line.{command_brings};
@@ -24,9 +25,10 @@ fn fill<D: Disk>(
     disk: &mut D,
 ) -> Result<Option<Rows>, Status>
     requires stand { RowsStand store.old.streams rows }
+    requires fits { length text.old ≤ MOST_SAID }
     requires open { IsOpen (D.seen disk.old) store.old }
     ensures fills { Step (disk_verdict (ended result)) (D.seen disk.old) (D.seen disk.new) (Fills store.old.streams rows text.old text.new result) }
-    ensures stand { IfOk result (λ left. IfSome left (RowsStand store.old.streams)) }
+    ensures filled { IfOk result (IsFilled store.old.streams text.new) }
     ensures streams { store.new.streams ≡ store.old.streams }
     ensures open { OnOk result (IsOpen (D.seen disk.new) store.new) }
     ensures status { IfErr result (IsDiskStop (D.seen disk.old).tells) }
@@ -53,6 +55,7 @@ pub fn say_rows<D: Disk>(
     ensures says { Step (disk_verdict (ended result)) (D.seen disk.old) (D.seen disk.new)
         (SaysOpen (λ history. command_brings history command.now) store.old store.new text.new result) }
     ensures stand { IfOk result (λ left. IfSome left (CanBeTaken store.new)) }
+    ensures piece { IfOk result (IsPiece text.new) }
     ensures open { OnOk result (IsOpen (D.seen disk.new) store.new) }
     ensures status { IfErr result (IsDiskStop (D.seen disk.old).tells) }
 {
@@ -72,6 +75,7 @@ pub fn say_further<D: Disk>(
     requires open { IsOpen (D.seen disk.old) store.old }
     ensures says { Step (disk_verdict (ended result)) (D.seen disk.old) (D.seen disk.new) (SaysFurther (Some rows) store.old store.new text.new result) }
     ensures stand { IfOk result (λ left. IfSome left (CanBeTaken store.new)) }
+    ensures piece { IfOk result (IsPiece text.new) }
     ensures open { OnOk result (IsOpen (D.seen disk.new) store.new) }
     ensures status { IfErr result (IsDiskStop (D.seen disk.old).tells) }
 {

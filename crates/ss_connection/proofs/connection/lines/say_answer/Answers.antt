@@ -9,7 +9,7 @@ returns-in_err-reply-clause-says g c =
     let status = c.in_err-reply.field-0.0 in
     let same : c.from_residual.result ≡ Err status = search rules in
     rw same (step-given c.in_err-reply.ensures.asks (λ told asks.
-    Says-read (Err status) (g.met.D.Disk.knows_now c.args.disk.now told) (λ history. question-event history c.args.question.now) tt asks.reads
+    Says-read (g.D.Disk.seen c.args.disk.now).tells (Err status) c.in_err-reply.ensures.status (g.met.D.Disk.knows_now c.args.disk.now told) (λ history. question-event history c.args.question.now) tt asks.reads
     (λ history held. tt)))
 
 pub returns-clause-says : goal.returns-clause-says
@@ -17,7 +17,7 @@ returns-clause-says g c =
     let new = (g.D.Disk.seen c.ask.new.disk).told in
     step-given c.in_ok-reply.ensures.asks (λ told asks.
     Says-asked c.in_ok-reply.reply (g.met.D.Disk.knows_now c.args.disk.now told) (λ history. question-event history c.args.question.now)
-    (shown-sealed c.ask.new.store.records.journal new.content (rw c.in_ok-reply.ensures.journal c.requires.open.sealed)) c.say.ensures asks)
+    (shown-sealed c.ask.new.store.records.journal new.content (rw c.in_ok-reply.ensures.journal c.requires.open.sealed)) c.say.ensures.text asks)
 
 pub returns-clause-open : goal.returns-clause-open
 returns-clause-open g c = record {

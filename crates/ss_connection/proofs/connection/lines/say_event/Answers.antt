@@ -12,5 +12,5 @@ returns-in_err-reply-clause-says g c =
 
 pub returns-clause-says : goal.returns-clause-says
 returns-clause-says g c =
-    step-as c.in_ok-reply.ensures.applies (λ applies. Says-applied c.in_ok-reply.reply c.say.ensures
+    step-as c.in_ok-reply.ensures.applies (λ applies. Says-applied c.in_ok-reply.reply c.say.ensures.text
     (Applies-as (Ok c.in_ok-reply.reply) (λ history. event-in-time history c.args.event.now c.requires.in_time) applies))

@@ -6,7 +6,7 @@ pub returns-in_err-seal_store-clause-says : goal.returns-in_err-seal_store-claus
 returns-in_err-seal_store-clause-says g c =
     let status = c.in_err-seal_store.field-0.0 in
     let same : c.from_residual.result ≡ Err status = search rules in
-    rw same (step-as c.in_err-seal_store.ensures.seals (λ seals. Says-unsealed status seals))
+    rw same (step-as c.in_err-seal_store.ensures.seals (λ seals. Says-unsealed (g.D.Disk.seen c.args.disk.now).tells status c.in_err-seal_store.ensures.status seals))
 
 pub returns-clause-says : goal.returns-clause-says
 returns-clause-says g c =

@@ -6,7 +6,8 @@ pub returns-in_err-seal_store-clause-applies : goal.returns-in_err-seal_store-cl
 returns-in_err-seal_store-clause-applies g c =
     let status = c.in_err-seal_store.field-0.0 in
     let same : c.from_residual-in_err-seal_store.result ≡ Err status = search rules in
-    rw same (step-then c.in_ok-taken.ensures.stages c.in_err-seal_store.ensures.seals (λ stages seals. Applies-stopped c.in_ok-taken.taken status stages seals))
+    rw same (step-then c.in_ok-taken.ensures.stages c.in_err-seal_store.ensures.seals (λ stages seals. Applies-stopped c.in_ok-taken.taken
+    (g.D.Disk.seen c.stage_values.new.disk).tells status c.in_err-seal_store.ensures.status stages seals))
 
 pub returns-clause-applies : goal.returns-clause-applies
 returns-clause-applies g c =

@@ -1,4 +1,4 @@
-use Rattle.ss_connection.proofs.ManyLemmas.{HasStaged-more, HasStaged-none, StagesMany-refused, StagesMany-stopped, StagesSome, TakesFirst-all}
+use Rattle.ss_connection.proofs.ManyLemmas.{HasStaged-more, HasStaged-none, StagesMany-refused, StagesMany-starved, StagesMany-stopped, StagesSome, TakesFirst-all}
 use Rattle.ss_connection.proofs.ManyLemmas.{length-values, name-at, other-reply}
 use Rattle.ss_connection.specs.Calls.{OfHeld}
 use Rattle.ss_connection.specs.Holds.{Holds}
@@ -65,6 +65,9 @@ returns-in_err-ack-clause-stages g c =
           let so_far = some.each history staged held in
           let did = stages.each history (staged ++ map added (take k events)) so_far.holds in
           StagesMany-stopped event so_far inside at status did.0;
+      starves = λ history staged held.
+          let so_far = some.each history staged held in
+          StagesMany-starved event so_far inside at status (stages.starves history (staged ++ map added (take k events)) so_far.holds);
     }))
 
 pub returns-in-Refused-clause-stages : goal.returns-in-Refused-clause-stages
@@ -91,6 +94,7 @@ returns-in-Refused-clause-stages g c =
       takes = λ history staged held. (all history staged held).0;
       holds = λ history staged held. (all history staged held).1;
       any_moment = λ history staged held. (all history staged held).2;
+      starves = λ history staged held. tt;
     })
 
 pub returns-in_default : goal.returns-in_default
@@ -108,6 +112,7 @@ returns-in_default g c =
             takes = λ history staged held. absurd (wrong history staged held);
             holds = λ history staged held. absurd (wrong history staged held);
             any_moment = λ history staged held. absurd (wrong history staged held);
+            starves = λ history staged held. tt;
           });
       serves = c.in_ok-ack.ensures.serves;
       status = tt;
@@ -124,4 +129,5 @@ returns-clause-stages g c =
       takes = λ history staged held. TakesFirst-all taken all inv.refusal (some.each history staged held);
       holds = λ history staged held. (some.each history staged held).holds;
       any_moment = λ history staged held. (some.each history staged held).any_moment;
+      starves = λ history staged held. tt;
     })

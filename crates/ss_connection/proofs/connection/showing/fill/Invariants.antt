@@ -1,11 +1,13 @@
 use Rattle.ss_connection.specs.Holds.{text_left}
-use Rattle.ss_program.proofs.Common.{◌≡◌, ◌++◌, Some, OnlyReads, OfContent, Step, fine, Stands, IsOpen, History}
+use Rattle.ss_connection.specs.declared.text.TheConstants.{MOST_SAID}
+use Rattle.ss_program.proofs.Common.{◌≡◌, ◌≤◌, ◌++◌, length, Some, OnlyReads, OfContent, Step, fine, Stands, IsOpen, History}
 use Rattle.ss_program.specs.Rows.{RowsStand, count_left}
 use Rattle.ss_connection.proofs.connection.showing.fill.Given as goal
 
 -- the rows before those that are left stand behind the text, and the disk was only read
 abbrev pub invariant-loop-rows : goal.invariant-loop-rows
 invariant-loop-rows g l = record {
+  fits : length l.text ≤ MOST_SAID;
   is_open : IsOpen (g.D.Disk.seen l.disk) l.store;
   stand : RowsStand l.store.streams l.rows;
   streams : l.store.streams ≡ l.fn.store.streams;

@@ -1,4 +1,4 @@
-use Rattle.ss_connection.proofs.RowLemmas.{Says-further, can-be-taken, shows-opened}
+use Rattle.ss_connection.proofs.RowLemmas.{Says-further, can-be-taken, filled-piece, shows-opened}
 use Rattle.ss_program.proofs.StepLemmas.{step-given}
 use Rattle.ss_connection.proofs.connection.showing.say_further.Goals as goal
 
@@ -11,5 +11,8 @@ returns-clause-says g c =
 
 pub returns-clause-stand : goal.returns-clause-stand
 returns-clause-stand g c =
-    can-be-taken (g.D.Disk.seen c.fill.new.disk) c.fill.new.store c.args.store.now.streams c.fill.result c.fill.ensures.streams c.fill.ensures.open
-    c.fill.ensures.stand
+    can-be-taken (g.D.Disk.seen c.fill.new.disk) c.fill.new.store c.args.store.now.streams c.fill.new.text c.fill.result c.fill.ensures.streams c.fill.ensures.open
+    c.fill.ensures.filled
+
+pub returns-clause-piece : goal.returns-clause-piece
+returns-clause-piece g c = filled-piece c.args.store.now.streams c.fill.new.text c.fill.result c.fill.ensures.filled
