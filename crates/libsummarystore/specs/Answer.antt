@@ -1,7 +1,7 @@
 -- What a call answers.
-use Rattle.std.specs.Prelude.{◌+◌, ℕ, ℤ, Bool, true, false, List, Option, Some, None, Result, Ok, Err, if◌then◌else◌, nat_le}
+use Rattle.std.specs.Prelude.{◌+◌, ℕ, Bool, true, false, List, Option, Some, None, Result, Ok, Err, if◌then◌else◌, nat_le}
 use Rattle.ss_catalog.specs.declared.event.Event.{Event}
-use Rattle.ss_catalog.specs.declared.event.Event.TheVariants.{Create, Value}
+use Rattle.ss_catalog.specs.declared.event.Event.TheVariants.{Create}
 use Rattle.ss_catalog.specs.declared.params.Params.{Params}
 use Rattle.ss_catalog.specs.declared.query.Kind.{Kind}
 use Rattle.ss_catalog.specs.declared.query.Query.{Query}
@@ -71,7 +71,7 @@ both f (Err why) found = Err why
 both f (Ok x) (Err why) = Err why
 both f (Ok x) (Ok y) = Ok (f x y)
 
--- the event that makes a stream, and the one of a value, whose time is looked at first
+-- the event that makes a stream
 abbrev made : Params → Result (List ℕ) Why → Result Event Why
 made params (Ok name) = Ok (Create name params)
 made params (Err why) = Err why
@@ -79,8 +79,9 @@ made params (Err why) = Err why
 abbrev pub create_of : List ℕ → Params → Result Event Why
 create_of word params = made params (name_of word)
 
-abbrev pub value_of : List ℕ → ℕ → ℤ → Result Event Why
-value_of word time value = both (λ t name. Value name t value) (in_time time) (name_of word)
+-- a time and a name, of which the time is looked at first
+abbrev pub placed_of : List ℕ → ℕ → Result (ℕ × List ℕ) Why
+placed_of word time = both (λ t name. (t, name)) (in_time time) (name_of word)
 
 -- a query, whose times are looked at first
 abbrev pub query_of : List ℕ → Kind → ℕ → ℕ → Result Query Why

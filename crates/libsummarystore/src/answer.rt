@@ -118,14 +118,14 @@ pub fn create_of(name: &[u8], params: Params) -> Result<Event, Why>
     }
 }
 
-/// The event of a value. Its time is looked at first.
-pub fn value_of(name: &[u8], time: u64, value: i64) -> Result<Event, Why>
-    ensures { result ≡ by.value_of name.now time value }
+/// A time and a name. The time is looked at first.
+pub fn placed_of(name: &[u8], time: u64) -> Result<(u64, Name), Why>
+    ensures { result ≡ by.placed_of name.now time }
 {
     match (in_time(time), name_of(name)) {
         (Err(why), _) => Err(why),
         (_, Err(why)) => Err(why),
-        (Ok(t), Ok(name)) => Ok(Event::Value { name, t, v: value }),
+        (Ok(t), Ok(name)) => Ok((t, name)),
     }
 }
 

@@ -1,16 +1,16 @@
 // A connection with its disk.
 ghost use Rattle.std.specs.Prelude.{◌≡◌, ◌+◌, ◌<◌, ◌≤◌, drop, length, min, take, None, Some, Ok, Result, IfErr, IfOk, IfSome, OnOk, IsTrue, IsFalse};
 ghost use Rattle.ss_catalog.specs.Series.{IsSeriesInRange};
-ghost use Rattle.ss_catalog.specs.declared.event.Event.TheVariants.{Create};
+ghost use Rattle.ss_catalog.specs.declared.event.Event.TheVariants.{Value};
 ghost use Rattle.ss_connection.specs.Calls.{SealsHeld};
 ghost use Rattle.ss_connection.specs.Many.{AppliesMany, StagesMany, values_at};
 ghost use Rattle.ss_program.specs.declared.answer.Question.TheVariants as questions;
 ghost use Rattle.ss_program.specs.declared.status.Status.{Status};
-ghost use Rattle.libsummarystore.specs.Answer.{create_of, done_of, going, name_of, query_of, value_of, writing};
+ghost use Rattle.libsummarystore.specs.Answer.{create_of, done_of, going, name_of, query_of, placed_of, writing};
 ghost use Rattle.libsummarystore.specs.Held.{Asks, CalledOnce, HandsOut, IsReady, IsStill, Knows, KnowsNewest, RepliesTo, Says, SaysMore, Takes, TakesMany};
 
 use crate::answer::{
-    Why, ack_of, create_of, done_of, going, name_of, newest_of, outcome_of, query_of, value_of,
+    Why, ack_of, create_of, done_of, going, name_of, newest_of, outcome_of, placed_of, query_of,
     writing,
 };
 use crate::fill::fill;
@@ -141,20 +141,13 @@ impl<D: Disk> Held<D> {
         }
     }
 
-    // Takes an event, where one is meant.
-    fn take(&mut self, meant: Result<Event, Why>) -> Result<Ack, Why>
+    // Takes an event.
+    fn take(&mut self, event: &Event) -> Result<Ack, Why>
         requires { IsReady D.seen self.old }
         ensures ready { IsReady D.seen self.new }
-        ensures refused { IfErr (going self.old.connection.ended (writing self.old.only_looks meant)) (λ why.
-            (result ≡ Err why) × IsStill D.seen self.old self.new) }
-        ensures takes { IfOk (going self.old.connection.ended (writing self.old.only_looks meant)) (λ event.
-            Takes D.seen event self.old self.new result) }
+        ensures takes { Takes D.seen event.now self.old self.new result }
     {
-        self.shown = None;
-        match going(self.ended(), writing(self.only_looks, meant)) {
-            Ok(event) => ack_of(self.reply_to(&event)),
-            Err(why) => Err(why),
-        }
+        ack_of(self.reply_to(event))
     }
 
     /// Makes a stream.
@@ -166,19 +159,33 @@ impl<D: Disk> Held<D> {
         ensures takes { IfOk (going self.old.connection.ended (writing self.old.only_looks (create_of name.now params))) (λ event.
             Takes D.seen event self.old self.new result) }
     {
-        self.take(create_of(name, params))
+        self.shown = None;
+        match going(
+            self.ended(),
+            writing(self.only_looks, create_of(name, params)),
+        ) {
+            Ok(event) => self.take(&event),
+            Err(why) => Err(why),
+        }
     }
 
     /// Takes a value.
     pub fn append(&mut self, name: &[u8], time: u64, value: i64) -> Result<Ack, Why>
         requires { IsReady D.seen self.old }
         ensures ready { IsReady D.seen self.new }
-        ensures refused { IfErr (going self.old.connection.ended (writing self.old.only_looks (value_of name.now time value))) (λ why.
+        ensures refused { IfErr (going self.old.connection.ended (writing self.old.only_looks (placed_of name.now time))) (λ why.
             (result ≡ Err why) × IsStill D.seen self.old self.new) }
-        ensures takes { IfOk (going self.old.connection.ended (writing self.old.only_looks (value_of name.now time value))) (λ event.
-            Takes D.seen event self.old self.new result) }
+        ensures takes { IfOk (going self.old.connection.ended (writing self.old.only_looks (placed_of name.now time))) (λ placed.
+            Takes D.seen (Value placed.1 placed.0 value) self.old self.new result) }
     {
-        self.take(value_of(name, time, value))
+        self.shown = None;
+        match going(
+            self.ended(),
+            writing(self.only_looks, placed_of(name, time)),
+        ) {
+            Ok((t, name)) => self.take(&Event::Value { name, t, v: value }),
+            Err(why) => Err(why),
+        }
     }
 
     // Stages values in a batch, and else brings them to the disk together.
