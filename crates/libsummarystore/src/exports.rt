@@ -5,7 +5,6 @@ use crate::image::Next;
 use crate::kept::Kept;
 use crate::opening::open;
 use crate::shapes::{CAck, CInterval, CNewest, CTarget, ack, kind};
-use ss_catalog::Refusal;
 use ss_connection::Taken;
 use std::alloc::Global;
 
@@ -38,8 +37,6 @@ fn hand_out_taken(found: Taken, taken: &mut usize, acked: &mut CAck) -> i32 {
         *acked = ack(last);
     }
     match found.refusal {
-        // A time that is none is a number that is none.
-        Some(Refusal::Syntax) => Why::Refused(Refusal::Number).number(),
         Some(refusal) => Why::Refused(refusal).number(),
         None => DONE,
     }

@@ -4,6 +4,7 @@ ghost use Rattle.ss_catalog.specs.Series.{IsSeriesInRange};
 ghost use Rattle.ss_catalog.specs.declared.event.Event.TheVariants.{Value};
 ghost use Rattle.ss_connection.specs.Calls.{SealsHeld};
 ghost use Rattle.ss_connection.specs.Many.{AppliesMany, StagesMany, values_at};
+ghost use Rattle.ss_program.specs.Status.{IsDiskStop};
 ghost use Rattle.ss_program.specs.declared.answer.Question.TheVariants as questions;
 ghost use Rattle.ss_program.specs.declared.status.Status.{Status};
 ghost use Rattle.libsummarystore.specs.Answer.{create_of, done_of, going, name_of, query_of, placed_of, writing};
@@ -225,7 +226,7 @@ impl<D: Disk> Held<D> {
     pub fn seal(&mut self) -> Result<(), Why>
         requires { IsReady D.seen self.old }
         ensures ready { IsReady D.seen self.new }
-        ensures seals { (sealed : Result Unit Status) × (result ≡ done_of sealed) × CalledOnce D.seen self.old self.new sealed
+        ensures seals { (sealed : Result Unit Status) × (result ≡ done_of sealed) × CalledOnce D.seen IsDiskStop self.old self.new sealed
             (SealsHeld self.old.connection.store.records self.new.connection.store.records sealed) }
     {
         self.shown = None;

@@ -1,7 +1,7 @@
 -- What calls of a connection answer.
 use Rattle.ss_connection.specs.Calls.{Called, OnStarved, stop_of}
 use Rattle.ss_connection.proofs.HoldsLemmas.{first-none}
-use Rattle.ss_connection.specs.Holds.{ConnectionState, IsGoing, IsPiece, IsUsable}
+use Rattle.ss_connection.specs.Holds.{ConnectionState, IsGoing, IsUsable}
 use Rattle.ss_connection.specs.declared.text.TheConstants.{MOST_SAID}
 use Rattle.ss_connection.specs.Opens.{OpensHeld, store_of}
 use Rattle.ss_program.specs.declared.status.Status.{Status}

@@ -1,5 +1,7 @@
+mod BatchLemmas
 mod CallLemmas
 mod EventLemmas
+mod EventRows
 mod HoldsLemmas
 mod LawLemmas
 mod ManyLemmas

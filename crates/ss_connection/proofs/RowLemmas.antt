@@ -12,7 +12,7 @@ use Rattle.ss_program.proofs.Common.{◌≡◌, ◌∙◌, ◌++◌, ◌∷◌, 
 use Rattle.ss_program.proofs.Common.{reads-none, shown-sealed, sym, Command, DiskView, HasRows, IsOpen, KnowsNow, ReadsAnswer, Reply}
 use Rattle.ss_program.proofs.Common.{Stands, StoreState, Told, command_brings, reply_line, shown_by, text_brought}
 use Rattle.ss_program.proofs.AnswerLemmas.{rows-event}
-use Rattle.ss_program.specs.Rows.{AreBrought, RowsStand}
+use Rattle.ss_program.specs.Rows.{AreBrought}
 use Rattle.ss_program.specs.Status.{IsDiskStop}
 use Rattle.ss_program.specs.declared.rows.Rows.{Rows}
 use Rattle.ss_program.specs.declared.status.Status.{Status}

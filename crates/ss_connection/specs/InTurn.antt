@@ -1,16 +1,20 @@
 -- Calls of one connection, one after another.
-use Rattle.std.specs.Prelude.{◌≡◌, ◌++◌, ◌∷◌, [], ℕ, List, All, Option, None, Some, Ok, IfSome, flat_map, length, ⊤}
+use Rattle.std.specs.Prelude.{◌≡◌, ◌++◌, ◌∷◌, [], ℕ, List, All, Option, None, Some, Ok, IfSome, flat_map, length, map, ⊤}
 use Rattle.std.specs.List.{position_or_len}
 use Rattle.ss_catalog.specs.declared.event.Event.{Event}
 use Rattle.ss_command.specs.Grammar.{meaning}
 use Rattle.ss_command.specs.Lines.{is_line_end}
 use Rattle.ss_command.specs.declared.TheConstants.{LINE_END}
 use Rattle.ss_command.specs.declared.command.Command.TheVariants.{Do}
-use Rattle.ss_connection.specs.Calls.{SaysFurther, SaysOpen, bare, without_end}
+use Rattle.ss_connection.specs.Calls.{SaysFurther, SaysOpen, StagesHeld, bare, without_end}
+use Rattle.ss_connection.specs.Typed.{event_brings}
+use Rattle.ss_model.specs.History.{Happened}
+use Rattle.ss_records.specs.Kept.{RecordsState}
+use Rattle.ss_report.specs.declared.reply.Reply.{Reply}
 use Rattle.ss_outside.specs.Disk.{DiskView, Told}
 use Rattle.ss_outside.specs.Step.{Step}
 use Rattle.ss_outside.specs.Verdict.{fine}
-use Rattle.ss_program.specs.Line.{brings}
+use Rattle.ss_program.specs.Line.{History, brings, the_event}
 use Rattle.ss_program.specs.declared.rows.Rows.{Rows}
 use Rattle.ss_store.specs.Kept.{StoreState}
 
@@ -61,3 +65,36 @@ AreMeant [] [] = ⊤
 AreMeant [] (event ∷ events) = ⊥
 AreMeant (line ∷ ls) [] = ⊥
 AreMeant (line ∷ ls) (event ∷ events) = (meaning line ≡ Ok (Some (Do event))) × AreMeant ls events
+
+-- An event that was staged: its reply, and the records of the store and the disk before and after.
+pub record MadeStaged (D : Type 0) : Type 0 where
+  pub event : Event
+  pub reply : Reply
+  pub was : RecordsState
+  pub is : RecordsState
+  pub old : D
+  pub new : D
+
+-- Events were staged one after another: what `stage` ensures of each, over the store and the disk as the one before left them.
+abbrev pub AreStagedInTurn : {D : Type 0} → (D → DiskView) → List (MadeStaged D) → RecordsState → D → RecordsState → D → Type 0
+AreStagedInTurn seen [] was old is new = (is ≡ was) × (new ≡ old)
+AreStagedInTurn seen (made ∷ more) was old is new =
+    Step fine (seen made.old) (seen made.new) (StagesHeld (λ history. event_brings history made.event) made.was made.is (Ok made.reply))
+    × (made.was ≡ was) × (made.old ≡ old) × AreStagedInTurn seen more made.is made.new is new
+
+-- the events and their replies
+abbrev pub events_of : {D : Type 0} → List (MadeStaged D) → List Event
+events_of {D} calls = map (λ (made : MadeStaged D). made.event) calls
+
+abbrev pub replies_of : {D : Type 0} → List (MadeStaged D) → List Reply
+replies_of {D} calls = map (λ (made : MadeStaged D). made.reply) calls
+
+-- the events that are accepted of some after a history, and the replies to all
+abbrev pub accepted_events : History → List Event → List Happened
+accepted_events history [] = []
+accepted_events history (event ∷ events) = let more = the_event (event_brings history event).event in more ++ accepted_events (history ++ more) events
+
+abbrev pub event_replies : History → List Event → List Reply
+event_replies history [] = []
+event_replies history (event ∷ events) =
+    let here = event_brings history event in here.replies ++ event_replies (history ++ the_event here.event) events

@@ -19,7 +19,8 @@ use std::marker::Model;
 /// A store in the caller's own process, on a disk that it doesn't hold: each call takes the disk, as the last such call left it. It is
 /// handed lines of commands, whose replies are the program's, and events and questions as values. An event that is staged comes to the
 /// disk with the next call that seals, together with all that were staged before it. A call that stops ends the connection: from then
-/// on each call answers the same status, and does nothing.
+/// on each call that takes the disk answers the same status, and does nothing. Where memory runs out, all that were staged come to the disk
+/// first, and the event that wanted it isn't done.
 #[derive(Drop)]
 pub struct Connection {
     store: Store,

@@ -7,9 +7,11 @@ ghost use Rattle.ss_command.specs.declared.command.Command.TheVariants.{Do};
 ghost use Rattle.ss_connection.specs.Calls.{AppliesHeld, AsksHeld, OfHeld, SaysHeld, SaysOpen, bare};
 ghost use Rattle.ss_connection.specs.Holds.{Holds, text_left};
 ghost use Rattle.ss_connection.specs.InTurn.{AreInTurn, AreLines, AreMeant, Made, input_of, said_in};
+ghost use Rattle.ss_connection.specs.InTurn.{AreStagedInTurn, MadeStaged, accepted_events, event_replies, events_of, replies_of};
 ghost use Rattle.ss_connection.specs.Many.{AppliesMany};
 ghost use Rattle.ss_connection.specs.Typed.{event_brings};
 ghost use Rattle.ss_connection.specs.declared.connection.many.Taken.{Taken};
+ghost use Rattle.ss_model.specs.History.{Happened};
 ghost use Rattle.ss_outside.specs.Crash.{LeavesOnly};
 ghost use Rattle.ss_program.specs.Answer.{question_command};
 ghost use Rattle.ss_program.specs.Held.{StandsForFirst};
@@ -74,4 +76,14 @@ pub fn typed_calls_do_what_lines_say<D: Disk>()
     ensures values { (name : List ℕ) (events : List Event) (ls : List (List ℕ)) (taken : Taken) (was is : RecordsState) (old new : D) (history : History) →
         AreMeant ls (take taken.count events) → AppliesMany name events was is (Ok taken) (D.seen old).told (D.seen new).told →
         Holds history [] was (D.seen old).told → Holds (history ++ accepted (plain_talk history) ls) [] is (D.seen new).told }
+{}
+
+/// Events that are staged one after another are replied to as their lines would be, and are held behind what is staged, to come to the disk
+/// together; a crash meanwhile leaves the history with some first of all that are accepted.
+pub fn batches_hold_their_events<D: Disk>()
+    ensures { (calls : List (MadeStaged D)) (was is : RecordsState) (old new : D) (history : History) (staged : List Happened) →
+        AreStagedInTurn D.seen calls was old is new → IsTrue (D.seen old).tells → Holds history staged was (D.seen old).told →
+        let more = accepted_events (history ++ staged) (events_of calls) in
+        (replies_of calls ≡ event_replies (history ++ staged) (events_of calls)) × Holds history (staged ++ more) is (D.seen new).told
+        × LeavesOnly (D.seen old).told (D.seen new).told (StandsForFirst history (staged ++ more)) }
 {}

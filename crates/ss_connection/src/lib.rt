@@ -7,4 +7,7 @@ mod laws;
 mod text;
 
 pub use connection::{Connection, Taken};
-pub use laws::{answered_calls_stay, calls_say_what_a_run_says, typed_calls_do_what_lines_say};
+pub use laws::{
+    answered_calls_stay, batches_hold_their_events, calls_say_what_a_run_says,
+    typed_calls_do_what_lines_say,
+};

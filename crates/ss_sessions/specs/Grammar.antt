@@ -4,7 +4,7 @@ use Rattle.std.specs.Prelude.{Result, Ok, Err}
 use Rattle.std.specs.Option.{option_map}
 use Rattle.ss_catalog.specs.declared.refusal.Refusal.{Refusal}
 use Rattle.ss_catalog.specs.declared.refusal.Refusal.TheVariants.{Syntax, Number}
-use Rattle.ss_command.specs.Grammar.{is_comment, meaning, name_of, or_number}
+use Rattle.ss_command.specs.Grammar.{◌>>=◌, is_comment, meaning, name_of, or_number}
 use Rattle.ss_command.specs.Words.{first_word, is_word, rest_of, words}
 use Rattle.ss_fields.specs.Words.{number_up_to}
 use Rattle.ss_sessions.specs.declared.TheConstants.{ADDRESS, MOST_ASKED}

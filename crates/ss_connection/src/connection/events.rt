@@ -1,10 +1,11 @@
 // Events as values.
-ghost use Rattle.std.specs.Prelude.{◌≡◌, IfErr, OnOk};
+ghost use Rattle.std.specs.Prelude.{◌≡◌, None, IfErr, OnOk};
 ghost use Rattle.ss_catalog.specs.Events.{IsInTime};
 ghost use Rattle.ss_command.specs.declared.command.Command.TheVariants.{Do};
 ghost use Rattle.ss_connection.specs.Calls.{AppliesHeld, Called, IsSilent, SealsHeld, StagesHeld};
 ghost use Rattle.ss_connection.specs.Holds.{IsUsable};
 ghost use Rattle.ss_connection.specs.Typed.{event_brings, is_in_time};
+ghost use Rattle.ss_outside.specs.Disk.{SyncsAtMost};
 ghost use Rattle.ss_outside.specs.Step.{Step};
 ghost use Rattle.ss_program.specs.Answer.{IsOpen, IsServing};
 ghost use Rattle.ss_program.specs.Line.{command_brings};
@@ -69,6 +70,7 @@ pub fn stage_event<D: Disk>(store: &mut Store, event: &Event, disk: &mut D) -> R
 pub fn seal_store<D: Disk>(store: &mut Store, disk: &mut D) -> Result<(), Status>
     requires { IsServing (D.seen disk.old) store.old }
     ensures seals { Step (disk_verdict (ended result)) (D.seen disk.old) (D.seen disk.new) (SealsHeld store.old.records store.new.records result) }
+    ensures syncs { Step (disk_verdict (ended result)) (D.seen disk.old) (D.seen disk.new) (SyncsAtMost 2) }
     ensures open { OnOk result (IsOpen (D.seen disk.new) store.new) }
     ensures status { IfErr result (IsDiskStop (D.seen disk.old).tells) }
 {
@@ -109,9 +111,10 @@ impl Connection {
         staged
     }
 
-    /// Brings all staged events to the disk together.
+    /// Brings all staged events to the disk, by two syncs at most. A crash meanwhile leaves some first of them.
     pub fn seal<D: Disk>(&mut self, disk: &mut D) -> Result<(), Status>
         requires { IsUsable (D.seen disk.old) self.old }
+        ensures syncs { self.old.ended ≡ None → Step (disk_verdict (ended result)) (D.seen disk.old) (D.seen disk.new) (SyncsAtMost 2) }
         ensures called { Called IsDiskStop self.old self.new ((self.new ≡ self.old) × (disk.new ≡ disk.old)) result (D.seen disk.old) (D.seen disk.new)
             (SealsHeld self.old.store.records self.new.store.records result) }
         ensures silent { IsSilent self.old self.new }

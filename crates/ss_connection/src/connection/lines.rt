@@ -173,7 +173,7 @@ impl Connection {
 
     /// Does what a line of the grammar says, with or without its line end: `said` is then what a run says to it, or the first part of it
     /// where that is long, and `next` says the rest. All that was staged before and what the line does are on the disk when it answers. A
-    /// comment or an empty line says nothing.
+    /// comment or an empty line says nothing. Rows that are left of the line before are let go.
     pub fn call<D: Disk>(&mut self, line: &[u8], disk: &mut D) -> Result<(), Status>
         requires { IsUsable (D.seen disk.old) self.old }
         ensures { Called IsApplyStop self.old self.new ((self.new ≡ self.old) × (disk.new ≡ disk.old)) result (D.seen disk.old) (D.seen disk.new)

@@ -118,7 +118,8 @@ impl Connection {
         taken
     }
 
-    /// The same, and brings them to the disk together, with all that were staged before.
+    /// The same, and brings them to the disk, with all that were staged before. A crash meanwhile leaves some first of all. Where memory runs
+    /// out some first ones are on the disk, and how many isn't answered.
     pub fn append_many<D: Disk>(
         &mut self,
         name: &Name,

@@ -1,7 +1,6 @@
 use Rattle.ss_connection.proofs.CallLemmas.{Called-made, goes-on}
 use Rattle.ss_connection.proofs.HoldsLemmas.{Asks-held}
-use Rattle.ss_program.proofs.AnswerLemmas.{question-event}
-use Rattle.ss_program.proofs.Common.{◌∙◌, refl, sym, command_brings, question_command}
+use Rattle.ss_program.proofs.Common.{refl, sym}
 use Rattle.ss_program.proofs.StepLemmas.{step-given}
 use Rattle.ss_connection.proofs.connection.Connection.ask.Goals as goal
 
