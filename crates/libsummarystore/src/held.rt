@@ -170,6 +170,14 @@ impl<D: Disk> Held<D> {
         }
     }
 
+    // The time and the name of a value, where the connection takes one.
+    fn placed(&self, name: &[u8], time: u64) -> Result<(u64, Name), Why>
+        ensures { result ≡ going self.now.connection.ended (writing self.now.only_looks (placed_of name.now time)) }
+    {
+        let meant = placed_of(name, time);
+        going(self.ended(), writing(self.only_looks, meant))
+    }
+
     /// Takes a value.
     pub fn append(&mut self, name: &[u8], time: u64, value: i64) -> Result<Ack, Why>
         requires { IsReady D.seen self.old }
@@ -180,10 +188,7 @@ impl<D: Disk> Held<D> {
             Takes D.seen (Value placed.1 placed.0 value) self.old self.new result) }
     {
         self.shown = None;
-        match going(
-            self.ended(),
-            writing(self.only_looks, placed_of(name, time)),
-        ) {
+        match self.placed(name, time) {
             Ok((t, name)) => self.take(&Event::Value { name, t, v: value }),
             Err(why) => Err(why),
         }
