@@ -163,7 +163,7 @@ static int shown(summarystore *connection, int answer, size_t filled, summarysto
         text->bytes = connection->text;
         text->length = filled;
     }
-    return told(connection, answer);
+    return answer;
 }
 
 int summarystore_call(summarystore *connection, const char *line, size_t length, summarystore_text *reply)
@@ -172,19 +172,23 @@ int summarystore_call(summarystore *connection, const char *line, size_t length,
         return SUMMARYSTORE_MISUSE;
     if (length > 0 && memchr(line, '\n', length - 1) != NULL)
         return SUMMARYSTORE_MISUSE;
+    if (connection->stopped != 0)
+        return connection->stopped;
     size_t filled = 0;
     int answer = summarystore_held_call(&connection->held, (const byte *)line, length, (byte *)connection->text,
                                         MOST_SAID, &filled);
-    return shown(connection, answer, filled, reply);
+    return shown(connection, done(connection, answer), filled, reply);
 }
 
 int summarystore_next(summarystore *connection, summarystore_text *rows)
 {
     if (connection == NULL || rows == NULL)
         return SUMMARYSTORE_MISUSE;
+    if (connection->stopped != 0)
+        return connection->stopped;
     size_t filled = 0;
     int answer = summarystore_held_next(&connection->held, (byte *)connection->text, MOST_SAID, &filled);
-    return shown(connection, answer, filled, rows);
+    return shown(connection, done(connection, answer), filled, rows);
 }
 
 int summarystore_create(summarystore *connection, const char *name, size_t length, const summarystore_target *target, summarystore_ack *ack)
@@ -192,7 +196,9 @@ int summarystore_create(summarystore *connection, const char *name, size_t lengt
     summarystore_ack unseen;
     if (connection == NULL || !is_name(name, length) || target == NULL || target->family > SUMMARYSTORE_POWER)
         return SUMMARYSTORE_MISUSE;
-    return told(connection, summarystore_held_create(&connection->held, (const byte *)name, length, target, ack != NULL ? ack : &unseen));
+    if (connection->stopped != 0)
+        return connection->stopped;
+    return done(connection, summarystore_held_create(&connection->held, (const byte *)name, length, target, ack != NULL ? ack : &unseen));
 }
 
 int summarystore_append(summarystore *connection, const char *name, size_t length, uint64_t time, int64_t value, summarystore_ack *ack)
@@ -200,7 +206,9 @@ int summarystore_append(summarystore *connection, const char *name, size_t lengt
     summarystore_ack unseen;
     if (connection == NULL || !is_name(name, length))
         return SUMMARYSTORE_MISUSE;
-    return told(connection, summarystore_held_append(&connection->held, (const byte *)name, length, time, value, ack != NULL ? ack : &unseen));
+    if (connection->stopped != 0)
+        return connection->stopped;
+    return done(connection, summarystore_held_append(&connection->held, (const byte *)name, length, time, value, ack != NULL ? ack : &unseen));
 }
 
 int summarystore_append_many(summarystore *connection, const char *name, size_t length, const uint64_t *times, const int64_t *values,
@@ -212,13 +220,19 @@ int summarystore_append_many(summarystore *connection, const char *name, size_t 
     if (connection == NULL || !is_name(name, length) || taken == NULL || !is_array(times, count) || !is_array(values, count))
         return SUMMARYSTORE_MISUSE;
     *taken = 0;
-    return told(connection, summarystore_held_append_many(&connection->held, (const byte *)name, length, times != NULL ? times : no_times, count,
+    if (connection->stopped != 0)
+        return connection->stopped;
+    return done(connection, summarystore_held_append_many(&connection->held, (const byte *)name, length, times != NULL ? times : no_times, count,
                                                           values != NULL ? values : no_values, count, taken, ack != NULL ? ack : &unseen));
 }
 
 int summarystore_seal(summarystore *connection)
 {
-    return connection != NULL ? told(connection, summarystore_held_seal(&connection->held)) : SUMMARYSTORE_MISUSE;
+    if (connection == NULL)
+        return SUMMARYSTORE_MISUSE;
+    if (connection->stopped != 0)
+        return connection->stopped;
+    return done(connection, summarystore_held_seal(&connection->held));
 }
 
 int summarystore_query(summarystore *connection, const char *name, size_t length, int kind, uint64_t from, uint64_t to,
@@ -226,7 +240,9 @@ int summarystore_query(summarystore *connection, const char *name, size_t length
 {
     if (connection == NULL || !is_name(name, length) || !is_kind(kind) || answer == NULL)
         return SUMMARYSTORE_MISUSE;
-    return told(connection, summarystore_held_query(&connection->held, (const byte *)name, length, (uint32_t)kind, from, to, answer));
+    if (connection->stopped != 0)
+        return connection->stopped;
+    return done(connection, summarystore_held_query(&connection->held, (const byte *)name, length, (uint32_t)kind, from, to, answer));
 }
 
 int summarystore_estimate(summarystore *connection, const char *name, size_t length, int kind, uint64_t from, uint64_t to,
@@ -236,7 +252,9 @@ int summarystore_estimate(summarystore *connection, const char *name, size_t len
         return SUMMARYSTORE_MISUSE;
     if (kind != SUMMARYSTORE_COUNT && kind != SUMMARYSTORE_SUM && kind != SUMMARYSTORE_MEAN)
         return SUMMARYSTORE_MISUSE;
-    return told(connection, summarystore_held_estimate(&connection->held, (const byte *)name, length, (uint32_t)kind, from, to, answer));
+    if (connection->stopped != 0)
+        return connection->stopped;
+    return done(connection, summarystore_held_estimate(&connection->held, (const byte *)name, length, (uint32_t)kind, from, to, answer));
 }
 
 int summarystore_series(summarystore *connection, const char *name, size_t length, int kind, uint64_t from, uint64_t to, uint64_t step,
@@ -247,7 +265,9 @@ int summarystore_series(summarystore *connection, const char *name, size_t lengt
         return SUMMARYSTORE_MISUSE;
     if ((rows == NULL && room > 0) || room > PTRDIFF_MAX / sizeof *rows)
         return SUMMARYSTORE_MISUSE;
-    return told(connection, summarystore_held_series(&connection->held, (const byte *)name, length, (uint32_t)kind, from, to, step,
+    if (connection->stopped != 0)
+        return connection->stopped;
+    return done(connection, summarystore_held_series(&connection->held, (const byte *)name, length, (uint32_t)kind, from, to, step,
                                                      rows != NULL ? rows : &no_rows, room, count));
 }
 
@@ -256,24 +276,30 @@ int summarystore_has(summarystore *connection, const char *name, size_t length, 
     uint32_t found = SUMMARYSTORE_MAYBE;
     if (connection == NULL || !is_name(name, length) || presence == NULL)
         return SUMMARYSTORE_MISUSE;
+    if (connection->stopped != 0)
+        return connection->stopped;
     int answer = summarystore_held_has(&connection->held, (const byte *)name, length, value, from, to, &found);
     if (answer == SUMMARYSTORE_DONE)
         *presence = (int)found;
-    return told(connection, answer);
+    return done(connection, answer);
 }
 
 int summarystore_last(summarystore *connection, const char *name, size_t length, summarystore_newest *newest)
 {
     if (connection == NULL || !is_name(name, length) || newest == NULL)
         return SUMMARYSTORE_MISUSE;
-    return told(connection, summarystore_held_last(&connection->held, (const byte *)name, length, newest));
+    if (connection->stopped != 0)
+        return connection->stopped;
+    return done(connection, summarystore_held_last(&connection->held, (const byte *)name, length, newest));
 }
 
 int summarystore_streams(summarystore *connection, size_t *count)
 {
     if (connection == NULL || count == NULL)
         return SUMMARYSTORE_MISUSE;
-    return told(connection, summarystore_held_streams(&connection->held, count));
+    if (connection->stopped != 0)
+        return connection->stopped;
+    return done(connection, summarystore_held_streams(&connection->held, count));
 }
 
 const char *summarystore_refusal(int answer)
