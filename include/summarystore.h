@@ -2,6 +2,8 @@
  * windows that get longer with age, and each query is answered by an interval that surely holds the truth. docs/GUIDE.md tells what the
  * commands, replies and refusals mean, and which promises are proved.
  *
+ * The whole file is in memory while it is open, up to some 134 MB, beside what the store itself needs.
+ *
  * Times are whole numbers from 0 to 2^62, in whatever unit the caller counts, and values are whole numbers of 64 bits. A name has 1 to 32
  * bytes, each a letter, a digit, `_`, `-` or `.`, and no 0 behind it: its length is handed in.
  *
@@ -9,8 +11,8 @@
  * - A connection is one that `summarystore_open` gave and `summarystore_close` hasn't taken. One thread uses it at a time, and who hands it
  *   to another orders that by a lock or a join. Two connections may be used at the same time.
  * - A pointer with a length is readable so far, a pointer to an answer has room for one, and arrays have as many entries as is said.
- * - No call is made from a signal handler. A child of `fork` uses and closes no connection of its parent; it keeps the file locked until it
- *   ends or runs another program.
+ * - No call is made from a signal handler. A child of `fork` uses and closes no connection of its parent; where the parent ends without closing
+ *   it, the file stays locked until the child ends, or becomes another program.
  * What can be seen, as a null pointer, is answered by SUMMARYSTORE_MISUSE, and nothing is done. Where an answer is wanted no null is taken.
  * An answer is set where the status is 0, and else where it is said. */
 #ifndef SUMMARYSTORE_H
@@ -25,13 +27,13 @@ extern "C" {
 
 #define SUMMARYSTORE_VERSION "1.0.0"
 
-/* What a call answers. From 3 to 9, but for 5, they are the program's, and the connection has stopped: each later call answers the same, and
- * does nothing. From 128 on stand the refusals: nothing was changed, and the connection goes on. */
+/* What a call answers. From 3 to 9 the connection has stopped: each later call that isn't a misuse answers the same, and does nothing. But
+ * for 5 they are the program's. From 128 on stand the refusals: nothing was changed, and the connection goes on. */
 enum {
     SUMMARYSTORE_DONE = 0,
     SUMMARYSTORE_REFUSED_STORE = 3,  /* the file is no store, or a damaged one; it was left as it was */
-    SUMMARYSTORE_DISK_FAULT = 4,     /* the file couldn't be opened, locked, read, written or synced */
-    SUMMARYSTORE_BUSY = 5,           /* another connection, or another process, has the file: from `open`, and then from each call */
+    SUMMARYSTORE_DISK_FAULT = 4,     /* the file couldn't be opened, locked, read, written or synced, or there was no memory for what is written */
+    SUMMARYSTORE_BUSY = 5,           /* another connection, or another process, has the file; from `open`, and then from each call */
     SUMMARYSTORE_OUT_OF_MEMORY = 7,
     SUMMARYSTORE_RECORD_CHANGED = 9, /* something else changed the file meanwhile */
     SUMMARYSTORE_MISUSE = 64,        /* a call that can't be meant; the connection goes on */
@@ -122,19 +124,18 @@ typedef struct summarystore_newest {
 /* Opens the store at a path, which has so many bytes, and makes it where there is none and the flags allow it. The file is locked until the
  * connection is closed, and a store that was made is durable when the call returns.
  * Where the answer isn't 0, *connection has stopped, and tells why by `summarystore_message`; it is to be closed as any, and has no file. It
- * is null where there was no memory for one, and at a misuse: an unknown flag, LOOK with another than EXISTING, or a path that isn't UTF-8, has
- * a 0 in it or more than 4,096 bytes. */
+ * is null where there was no memory for one, and at a misuse: an unknown flag, LOOK with another than EXISTING, or a path of more than 4,096
+ * bytes or with a 0 in it. */
 int summarystore_open(const char *path, size_t length, unsigned flags, summarystore **connection);
 
-/* Makes durable what waits, unless the connection has stopped, gives the lock back, and frees the connection, whatever the answer is. The answer is that of
- * `summarystore_seal`, and 0 for a null pointer. */
+/* Makes durable what waits, unless the connection has stopped, gives the lock back, also where a child of `fork` has the file open, and frees
+ * the connection, whatever the answer is. The answer is that of `summarystore_seal`, and 0 for a null pointer. */
 int summarystore_close(summarystore *connection);
 
 /* Why the connection has stopped, or 0 where it goes on. */
 int summarystore_status(const summarystore *connection);
 
-/* The same in the program's words, with the system's in brackets. It is '' where the connection goes on, or where there was no memory for the
- * words. The text stays until the next call. */
+/* The same in words, with the system's in brackets, and '' where it goes on. The text stays until the next call. */
 const char *summarystore_message(const summarystore *connection);
 
 /* Does one line of the program's grammar, which may end in a line end but has none inside. The reply is the text that the program prints: a
@@ -156,8 +157,9 @@ int summarystore_create(summarystore *connection, const char *name, size_t lengt
 int summarystore_append(summarystore *connection, const char *name, size_t length, uint64_t time, int64_t value, summarystore_ack *ack);
 
 /* Takes so many values, each at its time, until one is refused; the answer is then that of the refused one. *taken says how many were taken
- * before, which are durable when the call returns, but in a batch, and `ack` is that of the last of them, set where there is one. Where the
- * answer is a stop, *taken is 0, and some first ones may be on the disk. */
+ * before, which are durable when the call returns, or in a batch when it is sealed, and `ack` is that of the last of them, set where there is
+ * one. The name is looked at before the times. A crash meanwhile leaves some first of them. Where the answer is a stop, *taken is 0, and some
+ * first ones may be on the disk. */
 int summarystore_append_many(summarystore *connection, const char *name, size_t length, const uint64_t *times, const int64_t *values,
                              size_t count, size_t *taken, summarystore_ack *ack);
 

@@ -11,11 +11,18 @@ struct held {
     void *at;
 };
 
-/* The box is null where there was no memory for one. Else it holds a connection, which has stopped where the answer isn't 0. */
-int32_t summarystore_held_open(const unsigned char *path, size_t length, uint32_t flags, struct held *held);
+/* Opens the store of a file that holds these bytes. The box is null where there was no memory for one. Else it holds a connection, which has
+ * stopped where the answer isn't 0. */
+int32_t summarystore_held_open(const unsigned char *content, size_t length, uint32_t flags, struct held *held);
 
-/* Frees the box, and answers what sealing answered. */
-int32_t summarystore_held_close(struct held *held);
+/* Frees the box, with all that waits. */
+void summarystore_held_free(struct held *held);
+
+/* What is to be done next to the file. */
+enum { HELD_NOTHING = 0, HELD_SYNC = 1, HELD_WRITE = 2, HELD_ROOM = 3 };
+
+/* Takes it: a write of *count bytes, which are in the room then, from *at on; or *count is the room that is needed, and nothing is taken. */
+int32_t summarystore_held_take(struct held *held, uint64_t *at, unsigned char *room, size_t size, size_t *count);
 
 int32_t summarystore_held_status(struct held *held);
 

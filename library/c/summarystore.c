@@ -1,5 +1,6 @@
-/* The calls of include/summarystore.h. Each looks that no pointer is null and no length absurd, and hands the rest to the proved library. No
- * proof covers this file: it is trusted. */
+/* The calls of include/summarystore.h. Each looks that no pointer is null and no length absurd, hands the rest to the proved library, and then
+ * does to the file what that has noted, before it hands the answer on. No proof covers this file: it is trusted. */
+#include "file.h"
 #include "held.h"
 
 #include <stdlib.h>
@@ -8,15 +9,28 @@
 #define LONGEST_NAME 32
 #define LONGEST_PATH 4096
 #define MOST_SAID 16384
+#define FIRST_ROOM 65536
 #define KNOWN_FLAGS (SUMMARYSTORE_EXISTING | SUMMARYSTORE_CHECKED | SUMMARYSTORE_BATCH | SUMMARYSTORE_LOOK)
 
 typedef unsigned char byte;
 
 struct summarystore {
     struct held held;
+    struct file file;
+    int stopped; /* why the file can't be used, or 0 */
+    char path[LONGEST_PATH + 1];
     char message[LONGEST_PATH + 256];
     char text[MOST_SAID + 1];
+    byte *room; /* for what is written */
+    size_t size;
 };
+
+/* Stops the connection: no further call is made of the proved library or the file. */
+static int stops(summarystore *connection, int status)
+{
+    connection->stopped = status;
+    return status;
+}
 
 /* Keeps what there is to say of a stop, and hands the answer on. */
 static int told(summarystore *connection, int answer)
@@ -27,6 +41,37 @@ static int told(summarystore *connection, int answer)
         connection->message[filled < room ? filled : room] = 0;
     }
     return answer;
+}
+
+/* Makes the room for what is written as long as it has to be. */
+static int widen(summarystore *connection, size_t size)
+{
+    byte *room = realloc(connection->room, size);
+    if (room == NULL) {
+        strcpy(connection->message, "no memory for what is to be written to the file");
+        return SUMMARYSTORE_DISK_FAULT;
+    }
+    connection->room = room;
+    connection->size = size;
+    return 0;
+}
+
+/* Does to the file what is noted, in that order, and then hands the answer on. Where something can't be done the connection stops. */
+static int done(summarystore *connection, int answer)
+{
+    char *message = connection->message;
+    size_t room = sizeof connection->message, count = 0;
+    uint64_t at = 0;
+    int next, failed = 0;
+    while (failed == 0 && (next = summarystore_held_take(&connection->held, &at, connection->room, connection->size, &count)) != HELD_NOTHING) {
+        if (next == HELD_WRITE)
+            failed = file_write(&connection->file, at, connection->room, count, connection->path, message, room);
+        else if (next == HELD_SYNC)
+            failed = file_sync(&connection->file, connection->path, message, room);
+        else
+            failed = widen(connection, count);
+    }
+    return failed != 0 ? stops(connection, failed) : told(connection, answer);
 }
 
 /* Whether there is a name that may be one. */
@@ -47,6 +92,26 @@ static int is_array(const void *first, size_t count)
     return (first != NULL || count == 0) && count <= PTRDIFF_MAX / 8;
 }
 
+/* Opens the file, and then the store that it holds. Of a file that was refused nothing is written. */
+static int begins(summarystore *made, unsigned flags)
+{
+    byte *content = NULL;
+    size_t length = 0;
+    int answer = file_open(&made->file, made->path, flags, &content, &length, made->message, sizeof made->message);
+    if (answer == 0 && made->room == NULL)
+        answer = SUMMARYSTORE_OUT_OF_MEMORY;
+    if (answer == 0)
+        answer = summarystore_held_open(content, length, flags & ~(unsigned)SUMMARYSTORE_EXISTING, &made->held);
+    free(content);
+    if (answer == 0)
+        answer = done(made, answer);
+    if (answer == 0)
+        return answer;
+    told(made, answer);
+    file_close(&made->file);
+    return stops(made, answer);
+}
+
 int summarystore_open(const char *path, size_t length, unsigned flags, summarystore **connection)
 {
     if (connection == NULL)
@@ -59,27 +124,30 @@ int summarystore_open(const char *path, size_t length, unsigned flags, summaryst
     summarystore *made = calloc(1, sizeof *made);
     if (made == NULL)
         return SUMMARYSTORE_OUT_OF_MEMORY;
-    int answer = summarystore_held_open((const byte *)path, length, flags, &made->held);
-    if (made->held.at == NULL) {
-        free(made);
-        return answer;
-    }
+    memcpy(made->path, path, length);
+    made->room = malloc(FIRST_ROOM);
+    made->size = made->room != NULL ? FIRST_ROOM : 0;
     *connection = made;
-    return told(made, answer);
+    return begins(made, flags);
 }
 
 int summarystore_close(summarystore *connection)
 {
     if (connection == NULL)
         return SUMMARYSTORE_DONE;
-    int answer = summarystore_held_close(&connection->held);
+    int answer = summarystore_seal(connection);
+    summarystore_held_free(&connection->held);
+    file_close(&connection->file);
+    free(connection->room);
     free(connection);
     return answer;
 }
 
 int summarystore_status(const summarystore *connection)
 {
-    return connection != NULL ? summarystore_held_status((struct held *)&connection->held) : SUMMARYSTORE_MISUSE;
+    if (connection == NULL || connection->stopped != 0)
+        return connection != NULL ? connection->stopped : SUMMARYSTORE_MISUSE;
+    return summarystore_held_status((struct held *)&connection->held);
 }
 
 const char *summarystore_message(const summarystore *connection)
@@ -95,7 +163,7 @@ static int shown(summarystore *connection, int answer, size_t filled, summarysto
         text->bytes = connection->text;
         text->length = filled;
     }
-    return told(connection, answer);
+    return answer;
 }
 
 int summarystore_call(summarystore *connection, const char *line, size_t length, summarystore_text *reply)
@@ -104,19 +172,23 @@ int summarystore_call(summarystore *connection, const char *line, size_t length,
         return SUMMARYSTORE_MISUSE;
     if (length > 0 && memchr(line, '\n', length - 1) != NULL)
         return SUMMARYSTORE_MISUSE;
+    if (connection->stopped != 0)
+        return connection->stopped;
     size_t filled = 0;
     int answer = summarystore_held_call(&connection->held, (const byte *)line, length, (byte *)connection->text,
                                         MOST_SAID, &filled);
-    return shown(connection, answer, filled, reply);
+    return shown(connection, done(connection, answer), filled, reply);
 }
 
 int summarystore_next(summarystore *connection, summarystore_text *rows)
 {
     if (connection == NULL || rows == NULL)
         return SUMMARYSTORE_MISUSE;
+    if (connection->stopped != 0)
+        return connection->stopped;
     size_t filled = 0;
     int answer = summarystore_held_next(&connection->held, (byte *)connection->text, MOST_SAID, &filled);
-    return shown(connection, answer, filled, rows);
+    return shown(connection, done(connection, answer), filled, rows);
 }
 
 int summarystore_create(summarystore *connection, const char *name, size_t length, const summarystore_target *target, summarystore_ack *ack)
@@ -124,7 +196,9 @@ int summarystore_create(summarystore *connection, const char *name, size_t lengt
     summarystore_ack unseen;
     if (connection == NULL || !is_name(name, length) || target == NULL || target->family > SUMMARYSTORE_POWER)
         return SUMMARYSTORE_MISUSE;
-    return told(connection, summarystore_held_create(&connection->held, (const byte *)name, length, target, ack != NULL ? ack : &unseen));
+    if (connection->stopped != 0)
+        return connection->stopped;
+    return done(connection, summarystore_held_create(&connection->held, (const byte *)name, length, target, ack != NULL ? ack : &unseen));
 }
 
 int summarystore_append(summarystore *connection, const char *name, size_t length, uint64_t time, int64_t value, summarystore_ack *ack)
@@ -132,7 +206,9 @@ int summarystore_append(summarystore *connection, const char *name, size_t lengt
     summarystore_ack unseen;
     if (connection == NULL || !is_name(name, length))
         return SUMMARYSTORE_MISUSE;
-    return told(connection, summarystore_held_append(&connection->held, (const byte *)name, length, time, value, ack != NULL ? ack : &unseen));
+    if (connection->stopped != 0)
+        return connection->stopped;
+    return done(connection, summarystore_held_append(&connection->held, (const byte *)name, length, time, value, ack != NULL ? ack : &unseen));
 }
 
 int summarystore_append_many(summarystore *connection, const char *name, size_t length, const uint64_t *times, const int64_t *values,
@@ -144,13 +220,19 @@ int summarystore_append_many(summarystore *connection, const char *name, size_t 
     if (connection == NULL || !is_name(name, length) || taken == NULL || !is_array(times, count) || !is_array(values, count))
         return SUMMARYSTORE_MISUSE;
     *taken = 0;
-    return told(connection, summarystore_held_append_many(&connection->held, (const byte *)name, length, times != NULL ? times : no_times, count,
+    if (connection->stopped != 0)
+        return connection->stopped;
+    return done(connection, summarystore_held_append_many(&connection->held, (const byte *)name, length, times != NULL ? times : no_times, count,
                                                           values != NULL ? values : no_values, count, taken, ack != NULL ? ack : &unseen));
 }
 
 int summarystore_seal(summarystore *connection)
 {
-    return connection != NULL ? told(connection, summarystore_held_seal(&connection->held)) : SUMMARYSTORE_MISUSE;
+    if (connection == NULL)
+        return SUMMARYSTORE_MISUSE;
+    if (connection->stopped != 0)
+        return connection->stopped;
+    return done(connection, summarystore_held_seal(&connection->held));
 }
 
 int summarystore_query(summarystore *connection, const char *name, size_t length, int kind, uint64_t from, uint64_t to,
@@ -158,7 +240,9 @@ int summarystore_query(summarystore *connection, const char *name, size_t length
 {
     if (connection == NULL || !is_name(name, length) || !is_kind(kind) || answer == NULL)
         return SUMMARYSTORE_MISUSE;
-    return told(connection, summarystore_held_query(&connection->held, (const byte *)name, length, (uint32_t)kind, from, to, answer));
+    if (connection->stopped != 0)
+        return connection->stopped;
+    return done(connection, summarystore_held_query(&connection->held, (const byte *)name, length, (uint32_t)kind, from, to, answer));
 }
 
 int summarystore_estimate(summarystore *connection, const char *name, size_t length, int kind, uint64_t from, uint64_t to,
@@ -168,7 +252,9 @@ int summarystore_estimate(summarystore *connection, const char *name, size_t len
         return SUMMARYSTORE_MISUSE;
     if (kind != SUMMARYSTORE_COUNT && kind != SUMMARYSTORE_SUM && kind != SUMMARYSTORE_MEAN)
         return SUMMARYSTORE_MISUSE;
-    return told(connection, summarystore_held_estimate(&connection->held, (const byte *)name, length, (uint32_t)kind, from, to, answer));
+    if (connection->stopped != 0)
+        return connection->stopped;
+    return done(connection, summarystore_held_estimate(&connection->held, (const byte *)name, length, (uint32_t)kind, from, to, answer));
 }
 
 int summarystore_series(summarystore *connection, const char *name, size_t length, int kind, uint64_t from, uint64_t to, uint64_t step,
@@ -179,7 +265,9 @@ int summarystore_series(summarystore *connection, const char *name, size_t lengt
         return SUMMARYSTORE_MISUSE;
     if ((rows == NULL && room > 0) || room > PTRDIFF_MAX / sizeof *rows)
         return SUMMARYSTORE_MISUSE;
-    return told(connection, summarystore_held_series(&connection->held, (const byte *)name, length, (uint32_t)kind, from, to, step,
+    if (connection->stopped != 0)
+        return connection->stopped;
+    return done(connection, summarystore_held_series(&connection->held, (const byte *)name, length, (uint32_t)kind, from, to, step,
                                                      rows != NULL ? rows : &no_rows, room, count));
 }
 
@@ -188,24 +276,30 @@ int summarystore_has(summarystore *connection, const char *name, size_t length, 
     uint32_t found = SUMMARYSTORE_MAYBE;
     if (connection == NULL || !is_name(name, length) || presence == NULL)
         return SUMMARYSTORE_MISUSE;
+    if (connection->stopped != 0)
+        return connection->stopped;
     int answer = summarystore_held_has(&connection->held, (const byte *)name, length, value, from, to, &found);
     if (answer == SUMMARYSTORE_DONE)
         *presence = (int)found;
-    return told(connection, answer);
+    return done(connection, answer);
 }
 
 int summarystore_last(summarystore *connection, const char *name, size_t length, summarystore_newest *newest)
 {
     if (connection == NULL || !is_name(name, length) || newest == NULL)
         return SUMMARYSTORE_MISUSE;
-    return told(connection, summarystore_held_last(&connection->held, (const byte *)name, length, newest));
+    if (connection->stopped != 0)
+        return connection->stopped;
+    return done(connection, summarystore_held_last(&connection->held, (const byte *)name, length, newest));
 }
 
 int summarystore_streams(summarystore *connection, size_t *count)
 {
     if (connection == NULL || count == NULL)
         return SUMMARYSTORE_MISUSE;
-    return told(connection, summarystore_held_streams(&connection->held, count));
+    if (connection->stopped != 0)
+        return connection->stopped;
+    return done(connection, summarystore_held_streams(&connection->held, count));
 }
 
 const char *summarystore_refusal(int answer)

@@ -97,7 +97,7 @@ void try_events(void)
     HOLDS(taken == 2 && ack.values == 7);
     HOLDS(summarystore_append_many(store, "a", 1, NULL, NULL, 0, &taken, NULL) == SUMMARYSTORE_DONE && taken == 0);
     HOLDS(summarystore_append_many(store, "a", 1, &beyond_time, values, 1, &taken, NULL) == SUMMARYSTORE_REFUSED_NUMBER && taken == 0);
-    HOLDS(summarystore_append_many(store, "a/b", 3, &beyond_time, values, 1, &taken, NULL) == SUMMARYSTORE_REFUSED_NUMBER && taken == 0);
+    HOLDS(summarystore_append_many(store, "a/b", 3, &beyond_time, values, 1, &taken, NULL) == SUMMARYSTORE_REFUSED_NAME && taken == 0);
     HOLDS(summarystore_append(store, "a/b", 3, beyond_time, 1, NULL) == SUMMARYSTORE_REFUSED_NUMBER);
     HOLDS(summarystore_append_many(store, "b", 1, times, values, 5, &taken, NULL) == SUMMARYSTORE_REFUSED_UNKNOWN && taken == 0);
     HOLDS(summarystore_append(store, "a", 1, 80, INT64_MAX, &ack) == SUMMARYSTORE_DONE && ack.values == 8);

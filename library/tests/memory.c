@@ -1,4 +1,4 @@
-/* Refuses each request for memory of the same calls, one in each turn, and then all from one on. A call that gets none answers so, and what
+/* Refuses each request for memory of the same calls, one in each turn, and then all from one on. A call that gets none answers so, also of what is to be written, and what
  * was acknowledged is in the store. Linked with --wrap, by which the library's requests come here. The last line counts the turns.
  * Usage: memory FOLDER */
 #include <inttypes.h>
@@ -108,9 +108,11 @@ static int turn(const char *path, long from, long to, int *is_last)
         answer = make_calls(store);
     *is_last = requests < from;
     int again = store != NULL ? summarystore_status(store) : answer;
+    int is_told = answer == SUMMARYSTORE_OUT_OF_MEMORY
+        || (answer == SUMMARYSTORE_DISK_FAULT && strstr(summarystore_message(store), "no memory") != NULL);
     int closed = summarystore_close(store);
     refused_from = refused_to = -1;
-    int is_right = answer == SUMMARYSTORE_DONE ? again == answer && closed == answer : answer == SUMMARYSTORE_OUT_OF_MEMORY && again == answer;
+    int is_right = answer == SUMMARYSTORE_DONE ? again == answer && closed == answer : is_told && again == answer;
     return is_right && is_kept(path);
 }
 

@@ -33,12 +33,14 @@ void try_null_connections(void)
 
 void try_misuse_of_open(void)
 {
+    static char long_path[4097];
     summarystore *store = (summarystore *)&store;
+    memset(long_path, 'x', sizeof long_path);
     HOLDS(summarystore_open("x.store", 7, 0, NULL) == SUMMARYSTORE_MISUSE);
     HOLDS(summarystore_open(NULL, 7, 0, &store) == SUMMARYSTORE_MISUSE && store == NULL);
     HOLDS(summarystore_open("x.store", 7, 16, &store) == SUMMARYSTORE_MISUSE && store == NULL);
     HOLDS(summarystore_open("x\0store", 7, 0, &store) == SUMMARYSTORE_MISUSE && store == NULL);
-    HOLDS(summarystore_open("\xff.store", 7, 0, &store) == SUMMARYSTORE_MISUSE && store == NULL);
+    HOLDS(summarystore_open(long_path, sizeof long_path, 0, &store) == SUMMARYSTORE_MISUSE && store == NULL);
     HOLDS(summarystore_open("x.store", 7, SUMMARYSTORE_LOOK | SUMMARYSTORE_BATCH, &store) == SUMMARYSTORE_MISUSE && store == NULL);
     HOLDS(summarystore_open("x.store", 7, SUMMARYSTORE_LOOK | SUMMARYSTORE_CHECKED, &store) == SUMMARYSTORE_MISUSE && store == NULL);
     HOLDS(access("x.store", F_OK) != 0);
