@@ -5,7 +5,7 @@ use Rattle.ss_arguments.specs.declared.mode.Form.{Form}
 use Rattle.ss_arguments.specs.declared.mode.Form.TheVariants.{Lines, Sessions, Frames, Follow}
 use Rattle.ss_arguments.specs.declared.mode.Mode.TheVariants.{Serve, Check, Gen}
 use Rattle.ss_arguments.specs.declared.mode.Sealing.TheVariants.{Shared}
-use Rattle.summarystore.specs.Plan.{asked_words, Planned, Runs, demand_of, missing_for, notice_of, path_of, planned, status_with}
+use Rattle.summarystore.specs.Plan.{asked_words, Planned, Prints, Runs, demand_of, missing_for, notice_of, path_of, planned, status_with}
 use Rattle.ss_file.specs.declared.demand.Demand.{Demand}
 use Rattle.ss_file.specs.declared.demand.Demand.TheVariants as demand
 use Rattle.summarystore.specs.declared.notice.Notice.TheVariants.{Help, Version}

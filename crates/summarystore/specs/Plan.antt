@@ -14,6 +14,7 @@ use Rattle.ss_arguments.specs.declared.mode.Mode.TheVariants.{Serve, Check, Gen}
 use Rattle.ss_file.specs.declared.demand.Demand.{Demand}
 use Rattle.ss_file.specs.declared.demand.Demand.TheVariants as demand
 use Rattle.summarystore.specs.declared.notice.Notice.{Notice}
+use Rattle.summarystore.specs.declared.notice.Notice.TheVariants.{Help, Version}
 use Rattle.ss_file.specs.declared.opening.Missing.{Missing}
 use Rattle.ss_file.specs.declared.opening.Missing.TheVariants.{Make, Fail, ReadEmpty, ReadFail}
 use Rattle.summarystore.specs.declared.options.Options.{Options}
