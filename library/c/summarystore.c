@@ -39,6 +39,8 @@ static int told(summarystore *connection, int answer)
         size_t room = sizeof connection->message - 1;
         size_t filled = summarystore_held_message(&connection->held, (byte *)connection->message, room);
         connection->message[filled < room ? filled : room] = 0;
+        if (filled == 0 && answer == SUMMARYSTORE_OUT_OF_MEMORY)
+            strcpy(connection->message, "out of memory");
     }
     return answer;
 }
@@ -92,14 +94,25 @@ static int is_array(const void *first, size_t count)
     return (first != NULL || count == 0) && count <= PTRDIFF_MAX / 8;
 }
 
+/* Puts the path before what there is to say of the file. */
+static void name_file(summarystore *connection)
+{
+    size_t length = strlen(connection->path), said = strlen(connection->message);
+    if (length + said + 3 > sizeof connection->message)
+        return;
+    memmove(connection->message + length + 2, connection->message, said + 1);
+    memcpy(connection->message, connection->path, length);
+    memcpy(connection->message + length, ": ", 2);
+}
+
 /* Opens the file, and then the store that it holds. Of a file that was refused nothing is written. */
 static int begins(summarystore *made, unsigned flags)
 {
     byte *content = NULL;
     size_t length = 0;
-    int answer = file_open(&made->file, made->path, flags, &content, &length, made->message, sizeof made->message);
-    if (answer == 0 && made->room == NULL)
-        answer = SUMMARYSTORE_OUT_OF_MEMORY;
+    int answer = made->room != NULL ? 0 : SUMMARYSTORE_OUT_OF_MEMORY;
+    if (answer == 0)
+        answer = file_open(&made->file, made->path, flags, &content, &length, made->message, sizeof made->message);
     if (answer == 0)
         answer = summarystore_held_open(content, length, flags & ~(unsigned)SUMMARYSTORE_EXISTING, &made->held);
     free(content);
@@ -108,6 +121,8 @@ static int begins(summarystore *made, unsigned flags)
     if (answer == 0)
         return answer;
     told(made, answer);
+    if (answer == SUMMARYSTORE_DISK_FAULT && strncmp(made->message, made->path, strlen(made->path)) != 0)
+        name_file(made);
     file_close(&made->file);
     return stops(made, answer);
 }
@@ -124,6 +139,7 @@ int summarystore_open(const char *path, size_t length, unsigned flags, summaryst
     summarystore *made = calloc(1, sizeof *made);
     if (made == NULL)
         return SUMMARYSTORE_OUT_OF_MEMORY;
+    made->file.descriptor = -1;
     memcpy(made->path, path, length);
     made->room = malloc(FIRST_ROOM);
     made->size = made->room != NULL ? FIRST_ROOM : 0;

@@ -5,8 +5,8 @@ use lib.Dec.{T, lit<}
 use seplogic.Ra.Ura.{Ura}
 use mir.Raw.{raw as bare}
 use mir.Syntax.{impl, tnil, dnil}
-use mir.Val.{Val, vptr, vnull, vstruct, of_list, has_ty, WT}
-use base.Logic.{ent, guard, guard_i, never, via, fst∗, snd∗}
+use mir.Val.{Val, vnull, vstruct, of_list, has_ty, WT}
+use base.Logic.{guard_i, never, via, fst∗, snd∗}
 use base.Fml.{ftrue}
 use contract.Monad.{fact_use}
 use types.Logic.{Logic, sem}

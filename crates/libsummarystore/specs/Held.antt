@@ -1,5 +1,5 @@
 -- A connection with its disk.
-use Rattle.std.specs.Prelude.{◌≡◌, ◌⊎◌, ℕ, Bool, List, Option, Result, Ok, Err, IsTrue, IsFalse, length, min, take}
+use Rattle.std.specs.Prelude.{◌≡◌, ◌⊎◌, ℕ, Bool, List, Result, Ok, Err, IsTrue, IsFalse, length, min, take}
 use Rattle.ss_catalog.specs.declared.event.Event.{Event}
 use Rattle.ss_connection.specs.Calls.{AppliesHeld, AsksHeld, Called, SaysFurther, SaysHeld, StagesHeld, bare, with_rows}
 use Rattle.ss_connection.specs.Holds.{IsUsable}

@@ -18,11 +18,10 @@ pub enum Shut {
     Store(OpenError),
 }
 
-// The status of a store that wasn't opened.
+// The status of a store that wasn't opened. The disk, an image, fails only where there is no memory.
 fn status_of(error: OpenError) -> Status {
     match error {
-        OpenError::Disk => Status::DiskFault,
-        OpenError::OutOfMemory => Status::OutOfMemory,
+        OpenError::Disk | OpenError::OutOfMemory => Status::OutOfMemory,
         OpenError::Changed { .. } => Status::RecordChanged,
         _ => Status::RefusedStore,
     }
