@@ -35,7 +35,7 @@ enum {
     SUMMARYSTORE_DISK_FAULT = 4,     /* the file couldn't be opened, locked, read, written or synced, or there was no memory for what is written */
     SUMMARYSTORE_BUSY = 5,           /* another connection, or another process, has the file; from `open`, and then from each call */
     SUMMARYSTORE_OUT_OF_MEMORY = 7,
-    SUMMARYSTORE_RECORD_CHANGED = 9, /* something else changed the file meanwhile */
+    SUMMARYSTORE_RECORD_CHANGED = 9, /* a record isn't what was put; the file is read once, at `open`, so what changes it later goes unseen */
     SUMMARYSTORE_MISUSE = 64,        /* a call that can't be meant; the connection goes on */
     SUMMARYSTORE_READ_ONLY = 65,     /* an event, by a connection that only looks; it goes on */
     SUMMARYSTORE_REFUSED = 128,      /* 128 and more: refused, for one of the reasons that follow */

@@ -176,6 +176,11 @@ def test_something_else_changes_the_file(path: Path, backend: str) -> None:
     with open(path, "r+b") as file:
         file.seek(storefile.FIRST_SLOT)
         file.write(b"\7" * (path.stat().st_size - storefile.FIRST_SLOT))
+    if backend == "library":
+        # It has the whole file in memory, and answers from there.
+        assert store.query("a", "count", 1, 5000) == 5000
+        store.close()
+        return
     with pytest.raises(errors.RecordChangedError) as changed:
         store.query("a", "sum", 1, 3000)
     assert changed.value.status == 9 and list(changed.value.unknown) == ["query a sum 1 3000"]
